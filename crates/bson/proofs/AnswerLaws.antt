@@ -1,0 +1,26 @@
+-- What an answer that gives says of the tests before it. Assumes nothing.
+use Prim.Native.Nat.{ℕ}
+use mathlib.Core.Path.{_≡_, refl}
+use mathlib.Core.Bool.{Bool, true, false}
+use native.Mathlib.Omega.{arith}
+use Rattle.bson.specs.Answer.{Answer, gives, refuses, then, unless, at}
+
+pub never : {A P : Type 0} {n p : ℕ} {a : A} → refuses n p ≡ gives a → P
+never e = let z : _≡_ {A = ℕ} 0 1 = cc in let w : ⊥ = omega arith in absurd w
+
+pub gives-injective : {A : Type 0} {a b : A} → gives a ≡ gives b → a ≡ b
+gives-injective e = cc
+
+-- the test held
+pub unless-gives : {A : Type 0} {a : A} (b : Bool) (n : ℕ) (x : Answer A) → unless b n x ≡ gives a → (b ≡ true) × (x ≡ gives a)
+unless-gives true n x e = (refl, e)
+unless-gives false n x e = never e
+
+-- the first gave what the second went on with
+pub then-gives : {A B : Type 0} {b : B} (x : Answer A) (f : A → Answer B) → then x f ≡ gives b → (a : A) × (x ≡ gives a) × (f a ≡ gives b)
+then-gives (gives a) f e = (a, refl, e)
+then-gives (refuses n p) f e = never e
+
+pub at-gives : {A : Type 0} {a : A} (p : ℕ) (x : Answer A) → at p x ≡ gives a → x ≡ gives a
+at-gives p (gives b) e = e
+at-gives p (refuses n q) e = never e

@@ -1,0 +1,4 @@
+pub mod AnswerLaws
+pub mod Common
+pub mod Determined
+pub mod Vectors

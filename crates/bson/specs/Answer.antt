@@ -1,0 +1,22 @@
+-- What a call answers: a value, or the number and the place of a refusal (document 01, "Numbers returned").
+use Prim.Native.Nat.{ℕ}
+use mathlib.Core.Bool.{Bool, true, false}
+
+pub data Answer (A : Type 0) : Type 0 where
+  gives : A → Answer A
+  refuses : (number place : ℕ) → Answer A
+
+-- "tested in this order": go on with what the first gives; a refusal stays
+abbrev pub then : {A B : Type 0} → Answer A → (A → Answer B) → Answer B
+then (gives a) f = f a
+then (refuses n p) f = refuses n p
+
+-- where the test fails, this number; "where none of these is meant", the place is 0
+abbrev pub unless : {A : Type 0} → Bool → ℕ → Answer A → Answer A
+unless true n a = a
+unless false n a = refuses n 0
+
+-- a refusal's place is "the tag byte of the element framed or read"
+abbrev pub at : {A : Type 0} → ℕ → Answer A → Answer A
+at p (gives a) = gives a
+at p (refuses n q) = refuses n p

@@ -1,0 +1,70 @@
+-- Framing: how many bytes a value has, seen from the rest of the slice at its first byte (document 01, "Admission and one step").
+use Prim.Native.Nat.{ℕ, _+_, _-_}
+use mathlib.Core.List.{List}
+use lib.ListN.{length, getD, drop}
+use lib.Dec.{leb, eqb}
+use Rattle.bson.specs.Answer.{Answer, gives, then, unless}
+use Rattle.bson.specs.Bytes.{le32, natural, Part, part}
+use Rattle.bson.specs.Cstring.{cstring}
+use Rattle.bson.specs.Tags.{Sized, fixed, asString, asPointer, asDocument, asBinary, asRegex, asScope}
+
+-- "n is the i32 in front": so many bytes present and n not negative and at least its least, else 8
+unfoldable pub lengthField : ℕ → ℕ → List ℕ → Answer ℕ
+lengthField present least v =
+    unless (leb present (length v)) 8
+    (unless (leb least (le32 v)) 8
+    (unless (natural (le32 v)) 8
+    (gives (le32 v))))
+
+-- "fits (9)"
+unfoldable pub fits : ℕ → List ℕ → Answer ℕ
+fits size v = unless (leb size (length v)) 9 (gives size)
+
+-- a number that so many bytes in front hold
+abbrev pub inFront : {A : Type 0} → ℕ → (List ℕ → A) → List ℕ → Answer A
+inFront size number v = then (fits size v) λ _. gives (number v)
+
+-- "fits (9), last byte zero (10)"
+unfoldable pub zeroEnded : ℕ → List ℕ → Answer ℕ
+zeroEnded size v =
+    then (fits size v) λ n.
+    unless (eqb (getD v (n - 1) 0) 0) 10 (gives n)
+
+-- "four bytes present and n at least 1 (8), fits (9), last byte zero (10)"
+unfoldable pub stringSize : List ℕ → Answer ℕ
+stringSize v = then (lengthField 4 1 v) λ n. zeroEnded (4 + n) v
+
+-- "a DBPointer then needs 12 more (9)"
+unfoldable pub pointerSize : List ℕ → Answer ℕ
+pointerSize v = then (stringSize v) λ n. fits (n + 12) v
+
+-- "five bytes present and n at least 5 (8), fits (9), last byte zero (10)"
+unfoldable pub documentSize : List ℕ → Answer ℕ
+documentSize v = then (lengthField 5 5 v) λ n. zeroEnded n v
+
+-- "four bytes present and n at least 0 (8), fits (9)"
+unfoldable pub binarySize : List ℕ → Answer ℕ
+binarySize v = then (lengthField 4 0 v) λ n. fits (5 + n) v
+
+unfoldable pub scopeSize : List ℕ → Answer ℕ
+scopeSize v = then (lengthField 4 0 v) λ n. fits n v
+
+-- "pattern 5, 6, then options 5, 6"
+unfoldable pub patternOptions : List ℕ → Answer (Part × Part)
+patternOptions v =
+    then (cstring v) λ p.
+    then (cstring (drop (p + 1) v)) λ o.
+    gives (part 0 p, part (p + 1) o)
+
+-- "pattern, zero, options, zero"
+unfoldable pub regexSize : List ℕ → Answer ℕ
+regexSize v = then (patternOptions v) λ r. gives (r .0 .size + 1 + (r .1 .size + 1))
+
+unfoldable pub framed : Sized → List ℕ → Answer ℕ
+framed (fixed n) v = fits n v
+framed asString v = stringSize v
+framed asPointer v = pointerSize v
+framed asDocument v = documentSize v
+framed asBinary v = binarySize v
+framed asRegex v = regexSize v
+framed asScope v = scopeSize v

@@ -1,0 +1,11 @@
+pub mod Answer
+pub mod Bytes
+pub mod Utf8
+pub mod Cstring
+pub mod Tags
+pub mod Framing
+pub mod Step
+pub mod Value
+pub mod Lookup
+pub mod Check
+pub mod Vectors

@@ -1,0 +1,33 @@
+-- Lookup and typed lookup, along the iteration (document 01, "Values").
+use Prim.Native.Nat.{ℕ}
+use mathlib.Core.List.{List}
+use mathlib.Core.Bool.{cond}
+use lib.Dec.{eqb}
+use Rattle.bson.specs.Answer.{Answer, gives, refuses, then, at, unless}
+use Rattle.bson.specs.Bytes.{bytes, same}
+use Rattle.bson.specs.Step.{terminator, Element, Iteration, ended, broken, more, iterate}
+use Rattle.bson.specs.Value.{Value, valueOf}
+
+pub record Found : Type 0 where
+  pub element : Element
+  pub value : Value
+
+-- "goes by equal bytes, stops at the first match and reads it, returning the value's refusal if there is one;
+-- damage behind it is not seen, damage before it is returned; no match is 16"
+abbrev pub first : List ℕ → List ℕ → Iteration → Answer Found
+first s key ended = refuses 16 (terminator s)
+first s key (broken n p) = refuses n p
+first s key (more e rest) =
+    cond (same key (bytes s (e .key)))
+    (then (valueOf s e) λ v. gives (record { element = e; value = v }))
+    (first s key rest)
+
+-- "iteration starts at 4"
+unfoldable pub get : List ℕ → List ℕ → Answer Found
+get s key = first s key (iterate s 4)
+
+-- "16, then the value's refusal, then 17"
+unfoldable pub getWith : List ℕ → List ℕ → ℕ → Answer Found
+getWith s key tag =
+    then (get s key) λ f.
+    at (f .element .place) (unless (eqb (f .element .tag) tag) 17 (gives f))

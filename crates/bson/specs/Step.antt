@@ -1,0 +1,89 @@
+-- Admission, the cursor, one step and iteration (document 01, "Admission and one step").
+use Prim.Native.Nat.{ℕ, zero, suc, _+_, _-_}
+use mathlib.Core.List.{List}
+use mathlib.Core.Bool.{Bool, true, false, cond, _&&_}
+use lib.ListN.{length, getD, drop}
+use lib.Dec.{leb, eqb}
+use Rattle.bson.specs.Answer.{Answer, gives, refuses, then, unless, at}
+use Rattle.bson.specs.Bytes.{le32, natural, Part, part}
+use Rattle.bson.specs.Cstring.{cstring}
+use Rattle.bson.specs.Tags.{sizedOf}
+use Rattle.bson.specs.Framing.{framed}
+
+-- "the terminator is the last offset"
+abbrev pub terminator : List ℕ → ℕ
+terminator s = length s - 1
+
+-- "admission tests 1, 2, 3 in this order"; it gives the length, which is the i32 in front
+unfoldable pub admitted : List ℕ → Answer ℕ
+admitted s =
+    unless (leb 5 (length s)) 1
+    (unless (natural (le32 s) && eqb (le32 s) (length s)) 2
+    (unless (eqb (getD s (terminator s) 0) 0) 3
+    (gives (length s))))
+
+-- "a cursor is an offset and an ended mark"
+pub record Cursor : Type 0 where
+  pub offset : ℕ
+  pub ended : Bool
+
+abbrev pub cursor : ℕ → Bool → Cursor
+cursor offset ended = record { offset = offset; ended = ended }
+
+-- an element: the offset of its tag byte, its tag, and where its key and its framed value lie
+pub record Element : Type 0 where
+  pub place : ℕ
+  pub tag : ℕ
+  pub key : Part
+  pub value : Part
+
+-- where the next step begins
+abbrev pub past : Element → ℕ
+past e = e .value .offset + e .value .size
+
+-- "key, up to its zero, 6; tag, 7; framing"
+unfoldable pub element : List ℕ → ℕ → Answer Element
+element s p =
+    then (cstring (drop (p + 1) s)) λ k.
+    then (sizedOf (getD s p 0)) λ z.
+    then (framed z (drop (p + 1 + k + 1) s)) λ n.
+    gives (record { place = p; tag = getD s p 0; key = part (p + 1) k; value = part (p + 1 + k + 1) n })
+
+pub data Step : Type 0 where
+  yield : Element → Step
+  end : Step
+
+-- "admission; ended cursor (answers end); 4; at the terminator (end)", then the element
+unfoldable pub step : List ℕ → Cursor → Answer Step
+step s c =
+    then (admitted s) λ _.
+    cond (c .ended) (gives end)
+    (at (c .offset)
+    (unless (leb 4 (c .offset) && leb (c .offset) (terminator s)) 4
+    (cond (eqb (c .offset) (terminator s)) (gives end)
+    (then (element s (c .offset)) λ e. gives (yield e)))))
+
+-- "a refusal or an end sets the mark and keeps the offset; an ended cursor stays ended"
+abbrev pub after : Cursor → Answer Step → Cursor
+after c (gives (yield e)) = cursor (past e) false
+after c (gives end) = cursor (c .offset) true
+after c (refuses n p) = cursor (c .offset) true
+
+-- iteration: the elements that steps yield one after the other, and how they end: at the terminator, or refused
+pub data Iteration : Type 0 where
+  ended : Iteration
+  broken : (number place : ℕ) → Iteration
+  more : Element → Iteration → Iteration
+
+abbrev pub onward : Answer Step → (ℕ → Iteration) → Iteration
+onward (gives (yield e)) from = more e (from (past e))
+onward (gives end) from = ended
+onward (refuses n p) from = broken n p
+
+-- an element has two bytes or more, so as many steps as the slice has bytes, and one, are enough (`iterate-eq`)
+unfoldable pub iterateFor : ℕ → List ℕ → ℕ → Iteration
+iterateFor zero s offset = broken 0 0
+iterateFor (suc n) s offset = onward (step s (cursor offset false)) (iterateFor n s)
+
+unfoldable pub iterate : List ℕ → ℕ → Iteration
+iterate s offset = iterateFor (suc (length s)) s offset

@@ -1,0 +1,1 @@
+// The definition stands in specs/, the laws about it in proofs/. There is no code.
