@@ -1,4 +1,5 @@
 pub mod AnswerLaws
 pub mod Common
+pub mod CstringLaws
 pub mod Determined
 pub mod Vectors

@@ -7,10 +7,16 @@ use lib.Dec.{ltb, eqb}
 use Rattle.bson.specs.Answer.{Answer, gives, unless}
 use Rattle.bson.specs.Utf8.{utf8}
 
--- how many bytes stand before the first zero; all of them where there is none
+-- how many bytes stand before the first that passes a test; all of them where none does
+abbrev pub before : (ℕ → Bool) → List ℕ → ℕ
+before test [] = 0
+before test (b ∷ v) = cond (test b) 0 (suc (before test v))
+
+abbrev pub isZero : ℕ → Bool
+isZero b = eqb b 0
+
 abbrev pub firstZero : List ℕ → ℕ
-firstZero [] = 0
-firstZero (b ∷ v) = cond (eqb b 0) 0 (suc (firstZero v))
+firstZero v = before isZero v
 
 -- the size of the text in front of a zero: "without a zero byte" 5, "not UTF-8" 6
 unfoldable pub cstring : List ℕ → Answer ℕ
