@@ -1,5 +1,1 @@
-pub mod AnswerLaws
-pub mod Common
-pub mod CstringLaws
-pub mod Determined
 pub mod Vectors

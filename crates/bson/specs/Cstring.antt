@@ -25,6 +25,6 @@ cstring v =
     (unless (utf8 (take (firstZero v) v)) 6
     (gives (firstZero v)))
 
--- a valid key: UTF-8 and no zero byte
-unfoldable pub validKey : List ℕ → Bool
-validKey k = eqb (firstZero k) (length k) && utf8 k
+-- a valid key, pattern or options: UTF-8 and no zero byte
+unfoldable pub validCstr : List ℕ → Bool
+validCstr k = eqb (firstZero k) (length k) && utf8 k

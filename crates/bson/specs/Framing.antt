@@ -6,7 +6,7 @@ use lib.Dec.{leb, eqb}
 use Rattle.bson.specs.Answer.{Answer, gives, then, unless}
 use Rattle.bson.specs.Bytes.{le32, natural, Part, part}
 use Rattle.bson.specs.Cstring.{cstring}
-use Rattle.bson.specs.Tags.{Sized, fixed, asString, asPointer, asDocument, asBinary, asRegex, asScope}
+use Rattle.bson.specs.Tags.{Sized, fixed, asString, asPointer, asDocument, asBinary, asRegex, asScope, sizedOf}
 
 -- "n is the i32 in front": so many bytes present and n not negative and at least its least, else 8
 unfoldable pub lengthField : ℕ → ℕ → List ℕ → Answer ℕ
@@ -68,3 +68,7 @@ framed asDocument v = documentSize v
 framed asBinary v = binarySize v
 framed asRegex v = regexSize v
 framed asScope v = scopeSize v
+
+-- "tag, 7; framing"
+unfoldable pub valueSize : ℕ → List ℕ → Answer ℕ
+valueSize tag v = then (sizedOf tag) λ z. framed z v

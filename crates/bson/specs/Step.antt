@@ -7,8 +7,7 @@ use lib.Dec.{leb, eqb}
 use Rattle.bson.specs.Answer.{Answer, gives, refuses, then, unless, at}
 use Rattle.bson.specs.Bytes.{le32, natural, Part, part}
 use Rattle.bson.specs.Cstring.{cstring}
-use Rattle.bson.specs.Tags.{sizedOf}
-use Rattle.bson.specs.Framing.{framed}
+use Rattle.bson.specs.Framing.{valueSize}
 
 -- "the terminator is the last offset"
 abbrev pub terminator : List ℕ → ℕ
@@ -45,8 +44,7 @@ past e = e .value .offset + e .value .size
 unfoldable pub element : List ℕ → ℕ → Answer Element
 element s p =
     then (cstring (drop (p + 1) s)) λ k.
-    then (sizedOf (getD s p 0)) λ z.
-    then (framed z (drop (p + 1 + k + 1) s)) λ n.
+    then (valueSize (getD s p 0) (drop (p + 1 + k + 1) s)) λ n.
     gives (record { place = p; tag = getD s p 0; key = part (p + 1) k; value = part (p + 1 + k + 1) n })
 
 pub data Step : Type 0 where

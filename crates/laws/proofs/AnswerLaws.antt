@@ -24,3 +24,12 @@ then-gives (refuses n p) f e = never e
 pub at-gives : {A : Type 0} {a : A} (p : ℕ) (x : Answer A) → at p x ≡ gives a → x ≡ gives a
 at-gives p (gives b) e = e
 at-gives p (refuses n q) e = never e
+
+-- what was given is gone on with
+pub then-from : {A B : Type 0} {a : A} (x : Answer A) (f : A → Answer B) → x ≡ gives a → then x f ≡ f a
+then-from x f e = rw e
+
+-- the rest matters only for what is given
+pub then-same : {A B : Type 0} (x : Answer A) (f g : A → Answer B) → ((a : A) → x ≡ gives a → f a ≡ g a) → then x f ≡ then x g
+then-same (gives a) f g h = h a refl
+then-same (refuses n p) f g h = refl

@@ -1,5 +1,7 @@
 -- Determined: two answers that the promise of a call allows are equal (document 01, "What every answer is bound to").
+use Prim.Native.Nat.{ℕ}
 use mathlib.Core.Path.{_≡_, ap, sym, _∙_}
+use Rattle.bson.specs.Answer.{Answer, gives, refuses}
 
 abbrev pub Determined : {A S : Type 0} → (A → S → Type 0) → Type 0
 Determined {A} {S} P = (r₁ r₂ : A) (s₁ s₂ : S) → P r₁ s₁ → P r₂ s₂ → r₁ ≡ r₂
@@ -7,3 +9,8 @@ Determined {A} {S} P = (r₁ r₂ : A) (s₁ s₂ : S) → P r₁ s₁ → P r�
 -- a meaning that can be read back is another's for no other case
 pub injective-by : {A B : Type 0} (said : A → B) (unsaid : B → A) → ((a : A) → unsaid (said a) ≡ a) → (a b : A) → said a ≡ said b → a ≡ b
 injective-by said unsaid again a b e = sym (again a) ∙ ap unsaid e ∙ again b
+
+-- an answer back as a case of an enum that holds what is given, or a refusal's number
+abbrev pub unsaid : {A E : Type 0} → (A → E) → (ℕ → E) → Answer A → E
+unsaid is refused (gives a) = is a
+unsaid is refused (refuses number place) = refused number

@@ -1,0 +1,28 @@
+-- Equal bytes, byte by byte. Assumes nothing.
+use Prim.Native.Nat.{ℕ, suc, _+_, _<_, _≤_}
+use mathlib.Core.Path.{_≡_, refl, ap}
+use mathlib.Core.List.{List, [], _∷_}
+use mathlib.Core.Bool.{true, false}
+use native.Mathlib.Numerals.{add-one}
+use lib.ListN.{length, getD, drop, drop-of-length-le}
+use lib.Seq.{drop-cons}
+use lib.Dec.{eqb}
+use borrow.Author.Tests.{eq-eqb, ne-eqb}
+use Rattle.bson.specs.Bytes.{same}
+use Rattle.laws.proofs.Common.{split}
+
+pub same-length : (a b : List ℕ) → (length a ≡ length b → ⊥) → same a b ≡ false
+same-length [] [] h = absurd (h refl)
+same-length [] (y ∷ b) h = refl
+same-length (x ∷ a) [] h = refl
+same-length (x ∷ a) (y ∷ b) h = split (eqb x y) (λ p. rw p (same-length a b (λ e. h (ap suc e)))) (λ p. rw p)
+
+module _ (a b : List ℕ) (i : ℕ) (p : i < length a) (q : i < length b) where
+  pub same-step : getD a i 0 ≡ getD b i 0 → same (drop i a) (drop i b) ≡ same (drop (i + 1) a) (drop (i + 1) b)
+  same-step e = rw (add-one, drop-cons a i 0 p, drop-cons b i 0 q, eq-eqb _ _ e)
+
+  pub same-differs : (getD a i 0 ≡ getD b i 0 → ⊥) → same (drop i a) (drop i b) ≡ false
+  same-differs e = rw (drop-cons a i 0 p, drop-cons b i 0 q, ne-eqb _ _ e)
+
+pub same-end : (a b : List ℕ) (i : ℕ) → length a ≤ i → length b ≤ i → same (drop i a) (drop i b) ≡ true
+same-end a b i p q = rw (drop-of-length-le a p, drop-of-length-le b q)

@@ -1,0 +1,132 @@
+-- A size that framing gives fits the rest of the slice, and is no less than its class asks. Assumes nothing.
+use Prim.Native.Nat.{ℕ, _+_, _-_, _≤_, _<_}
+use mathlib.Core.Path.{_≡_, refl, sym}
+use mathlib.Core.List.{List}
+use native.Mathlib.Omega.{arith}
+use lib.ListN.{length, getD, take, drop, length-drop}
+use lib.Dec.{leb, ltb, eqb}
+use borrow.Author.Tests.{leb-true, ltb-true, eqb-true}
+use Rattle.bson.specs.Answer.{gives}
+use Rattle.bson.specs.Bytes.{le32, natural, Part, part}
+use Rattle.bson.specs.Utf8.{utf8}
+use Rattle.bson.specs.Cstring.{firstZero, cstring}
+use Rattle.bson.specs.Tags.{Sized, fixed, asString, asPointer, asDocument, asBinary, asRegex, asScope, sizedOf}
+use Rattle.bson.specs.Framing.{lengthField, fits, zeroEnded, stringSize, pointerSize, documentSize, binarySize, scopeSize}
+use Rattle.bson.specs.Framing.{patternOptions, regexSize, framed, valueSize}
+use Rattle.laws.proofs.AnswerLaws.{gives-injective, unless-gives, then-gives}
+
+-- the zero is in the list too
+pub cstring-below : (v : List ℕ) (k : ℕ) → cstring v ≡ gives k → k < length v
+unfolding cstring
+cstring-below v k e =
+    let (t, e1) = unless-gives (ltb (firstZero v) (length v)) 5 _ e in
+    let (u, e2) = unless-gives (utf8 (take (firstZero v) v)) 6 _ e1 in
+    omega (arith, ltb-true (firstZero v) (length v) t, gives-injective e2)
+
+pub length-field-is : (present least : ℕ) (v : List ℕ) (n : ℕ) → lengthField present least v ≡ gives n
+    → (present ≤ length v) × (least ≤ n) × (n < 2147483648) × (le32 v ≡ n)
+unfolding lengthField
+length-field-is present least v n e =
+    let (t, e1) = unless-gives (leb present (length v)) 8 _ e in
+    let (u, e2) = unless-gives (leb least (le32 v)) 8 _ e1 in
+    let (w, e3) = unless-gives (natural (le32 v)) 8 _ e2 in
+    let i : le32 v ≡ n = gives-injective e3 in
+    (leb-true present (length v) t, omega (arith, leb-true least (le32 v) u), omega (arith, ltb-true (le32 v) 2147483648 w), i)
+
+-- what fits is given back
+pub fits-is : (size : ℕ) (v : List ℕ) (n : ℕ) → fits size v ≡ gives n → (n ≡ size) × (n ≤ length v)
+unfolding fits
+fits-is size v n e =
+    let (t, e1) = unless-gives (leb size (length v)) 9 _ e in
+    let i : size ≡ n = gives-injective e1 in
+    (sym i, omega (arith, leb-true size (length v) t))
+
+pub zero-ended-is : (size : ℕ) (v : List ℕ) (n : ℕ) → zeroEnded size v ≡ gives n → (n ≡ size) × (n ≤ length v) × (getD v (n - 1) 0 ≡ 0)
+unfolding zeroEnded
+zero-ended-is size v n e =
+    let (m, q, h) = then-gives (fits size v) _ e in
+    let (t, e1) = unless-gives (eqb (getD v (m - 1) 0) 0) 10 _ h in
+    let i : m ≡ n = gives-injective e1 in
+    let f = fits-is size v m q in
+    let z : getD v (m - 1) 0 ≡ 0 = eqb-true _ _ t in
+    (omega arith, omega arith, rw i at z)
+
+-- a length, text, a zero
+pub string-is : (v : List ℕ) (n : ℕ) → stringSize v ≡ gives n → (n ≡ 4 + le32 v) × (5 ≤ n) × (n ≤ length v) × (getD v (n - 1) 0 ≡ 0)
+unfolding stringSize
+string-is v n e =
+    let (m, q, h) = then-gives (lengthField 4 1 v) _ e in
+    let f = length-field-is 4 1 v m q in
+    let z = zero-ended-is (4 + m) v n h in
+    (omega arith, omega arith, z .1, z .2)
+
+pub string-least : (v : List ℕ) (n : ℕ) → stringSize v ≡ gives n → 5 ≤ n
+string-least v n e = string-is v n e .1
+
+-- what admission asks of a document, besides that it ends where the slice ends
+pub document-is : (v : List ℕ) (n : ℕ) → documentSize v ≡ gives n
+    → (le32 v ≡ n) × (5 ≤ n) × (n < 2147483648) × (n ≤ length v) × (getD v (n - 1) 0 ≡ 0)
+unfolding documentSize
+document-is v n e =
+    let (m, q, h) = then-gives (lengthField 5 5 v) _ e in
+    let f = length-field-is 5 5 v m q in
+    let z = zero-ended-is m v n h in
+    (omega arith, omega arith, omega arith, z .1, z .2)
+
+pub document-least : (v : List ℕ) (n : ℕ) → documentSize v ≡ gives n → 5 ≤ n
+document-least v n e = document-is v n e .1
+
+-- a string and twelve bytes
+pub pointer-is : (v : List ℕ) (n : ℕ) → pointerSize v ≡ gives n → (17 ≤ n) × (n ≤ length v)
+unfolding pointerSize
+pointer-is v n e =
+    let (m, q, h) = then-gives (stringSize v) _ e in
+    let f = fits-is (m + 12) v n h in
+    (omega (arith, string-least v m q), f .1)
+
+-- a length, the subtype, the data
+pub binary-is : (v : List ℕ) (n : ℕ) → binarySize v ≡ gives n → (n ≡ 5 + le32 v) × (n ≤ length v)
+unfolding binarySize
+binary-is v n e =
+    let (m, q, h) = then-gives (lengthField 4 0 v) _ e in
+    let f = fits-is (5 + m) v n h in
+    (omega (arith, length-field-is 4 0 v m q), f .1)
+
+-- its length counts all of it; whether that is enough, reading asks
+pub scope-is : (v : List ℕ) (n : ℕ) → scopeSize v ≡ gives n → (n ≡ le32 v) × (n ≤ length v)
+unfolding scopeSize
+scope-is v n e =
+    let (m, q, h) = then-gives (lengthField 4 0 v) _ e in
+    let f = fits-is m v n h in
+    (omega (arith, length-field-is 4 0 v m q), f .1)
+
+-- the options begin behind the pattern's zero, and their zero is in the list too
+pub pattern-options-fit : (v : List ℕ) (r : Part × Part) → patternOptions v ≡ gives r
+    → (r .0 .offset ≡ 0) × (r .1 .offset ≡ r .0 .size + 1) × (r .1 .offset + r .1 .size < length v)
+unfolding patternOptions
+pattern-options-fit v r e =
+    let (p, q, h) = then-gives (cstring v) _ e in
+    let (o, u, g) = then-gives (cstring (drop (p + 1) v)) _ h in
+    let i : _≡_ {A = Part × Part} (part 0 p, part (p + 1) o) r = gives-injective g in
+    rw (← i) (refl, refl, omega (arith, cstring-below v p q, cstring-below (drop (p + 1) v) o u, length-drop (p + 1) v))
+
+pub regex-fits : (v : List ℕ) (n : ℕ) → regexSize v ≡ gives n → n ≤ length v
+unfolding regexSize
+regex-fits v n e =
+    let (r, q, h) = then-gives (patternOptions v) _ e in
+    let f = pattern-options-fit v r q in
+    omega (arith, gives-injective h)
+
+pub framed-fits : (z : Sized) (v : List ℕ) (n : ℕ) → framed z v ≡ gives n → n ≤ length v
+unfolding framed
+framed-fits (fixed m) v n e = fits-is m v n e .1
+framed-fits asString v n e = string-is v n e .2
+framed-fits asPointer v n e = pointer-is v n e .1
+framed-fits asDocument v n e = document-is v n e .3
+framed-fits asBinary v n e = binary-is v n e .1
+framed-fits asRegex v n e = regex-fits v n e
+framed-fits asScope v n e = scope-is v n e .1
+
+pub value-size-fits : (tag : ℕ) (v : List ℕ) (n : ℕ) → valueSize tag v ≡ gives n → n ≤ length v
+unfolding valueSize
+value-size-fits tag v n e = let (z, q, h) = then-gives (sizedOf tag) _ e in framed-fits z v n h

@@ -1,0 +1,9 @@
+pub mod AnswerLaws
+pub mod BytesLaws
+pub mod CheckLaws
+pub mod Common
+pub mod CstringLaws
+pub mod Determined
+pub mod FramingLaws
+pub mod StepLaws
+pub mod TagLaws

@@ -1,0 +1,129 @@
+-- What admission and a step that yields say, and that iteration goes on from step to step. Assumes nothing.
+use Prim.Native.Nat.{ℕ, zero, suc, _+_, _≤_, _<_}
+use mathlib.Core.Path.{_≡_, refl, sym, ap, _∙_}
+use mathlib.Core.List.{List}
+use mathlib.Core.Bool.{Bool, true, false, cond, _&&_}
+use native.Mathlib.Omega.{arith}
+use lib.ListN.{length, getD, drop, length-drop}
+use lib.Dec.{leb, eqb}
+use borrow.Author.Tests.{leb-true, eqb-false}
+use Rattle.bson.specs.Answer.{Answer, gives, refuses, then}
+use Rattle.bson.specs.Bytes.{le32, natural}
+use Rattle.bson.specs.Cstring.{cstring}
+use Rattle.bson.specs.Framing.{valueSize}
+use Rattle.bson.specs.Step.{terminator, admitted, Cursor, cursor, Element, past, element, Step, yield, end, step}
+use Rattle.bson.specs.Step.{Iteration, ended, broken, more, onward, iterateFor, iterate}
+use Rattle.laws.proofs.AnswerLaws.{gives-injective, unless-gives, then-gives, at-gives}
+use Rattle.laws.proofs.FramingLaws.{cstring-below, value-size-fits}
+
+pub admitted-says : (s : List ℕ) (n : ℕ) → admitted s ≡ gives n → (5 ≤ length s) × (n ≡ length s)
+unfolding admitted
+admitted-says s n e =
+    let (t, e1) = unless-gives (leb 5 (length s)) 1 _ e in
+    let (u, e2) = unless-gives (natural (le32 s) && eqb (le32 s) (length s)) 2 _ e1 in
+    let (w, e3) = unless-gives (eqb (getD s (terminator s) 0) 0) 3 _ e2 in
+    (leb-true 5 (length s) t, sym (gives-injective e3))
+
+-- an element that a step at a cursor yields: where it lies, and that its key and its value are framed there
+pub record Yields (s : List ℕ) (c : Cursor) (e : Element) : Type 0 where
+  pub admits : admitted s ≡ gives (length s)
+  pub going : c .ended ≡ false
+  pub low : 4 ≤ c .offset
+  pub high : c .offset < terminator s
+  pub placed : e .place ≡ c .offset
+  pub tagged : e .tag ≡ getD s (c .offset) 0
+  pub key-at : e .key .offset ≡ c .offset + 1
+  pub value-at : e .value .offset ≡ e .key .offset + e .key .size + 1
+  pub wide : c .offset + 2 ≤ e .value .offset
+  pub inside : past e ≤ length s
+  pub key-is : cstring (drop (c .offset + 1) s) ≡ gives (e .key .size)
+  pub value-is : valueSize (e .tag) (drop (e .value .offset) s) ≡ gives (e .value .size)
+
+both : (a b : Bool) → a && b ≡ true → (a ≡ true) × (b ≡ true)
+both true b e = (refl, e)
+both false b e = let z : _≡_ {A = ℕ} 0 1 = cc in absurd (omega arith)
+
+-- a test that answers end did not hold
+not-end : (b : Bool) (x : Answer Step) (e : Element) → cond b (gives end) x ≡ gives (yield e) → (b ≡ false) × (x ≡ gives (yield e))
+not-end true x e h = let z : _≡_ {A = ℕ} 0 1 = cc in absurd (omega arith)
+not-end false x e h = (refl, h)
+
+module _ (s : List ℕ) (c : Cursor) (e : Element) where
+  element-yields : admitted s ≡ gives (length s) → c .ended ≡ false → 4 ≤ c .offset → c .offset < terminator s
+      → element s (c .offset) ≡ gives e → Yields s c e
+  unfolding element
+  element-yields a g l h x =
+      let p = c .offset in
+      let (k, key, x1) = then-gives (cstring (drop (p + 1) s)) _ x in
+      let (n, value, x2) = then-gives (valueSize (getD s p 0) (drop (p + 1 + k + 1) s)) _ x1 in
+      rw (← gives-injective x2)
+      (record {
+        admits = a;
+        going = g;
+        low = l;
+        high = h;
+        placed = refl;
+        tagged = refl;
+        key-at = refl;
+        value-at = refl;
+        wide = omega arith;
+        inside = omega (arith, cstring-below _ k key, length-drop (p + 1) s, value-size-fits _ _ n value, length-drop (p + 1 + k + 1) s);
+        key-is = key;
+        value-is = value;
+      })
+
+  pub step-yields : step s c ≡ gives (yield e) → Yields s c e
+  unfolding step
+  step-yields x =
+      let (n, a, x1) = then-gives (admitted s) _ x in
+      let (g, x2) = not-end (c .ended) _ e x1 in
+      let (t, x3) = unless-gives (leb 4 (c .offset) && leb (c .offset) (terminator s)) 4 _ (at-gives (c .offset) _ x2) in
+      let (f, x4) = not-end (eqb (c .offset) (terminator s)) _ e x3 in
+      let (d, x5, y) = then-gives (element s (c .offset)) _ x4 in
+      let i : d ≡ e = cc (gives-injective y) in
+      let (low, high) = both (leb 4 (c .offset)) (leb (c .offset) (terminator s)) t in
+      let l : 4 ≤ c .offset = leb-true 4 (c .offset) low in
+      let h : c .offset < terminator s = omega (arith, leb-true (c .offset) (terminator s) high, eqb-false (c .offset) (terminator s) f) in
+      element-yields (a ∙ ap gives (admitted-says s n a .1)) g l h (x5 ∙ ap gives i)
+
+onward-same : (x : Answer Step) (f g : ℕ → Iteration) → ((e : Element) → x ≡ gives (yield e) → f (past e) ≡ g (past e)) → onward x f ≡ onward x g
+onward-same (gives (yield e)) f g h = ap (more e) (h e refl)
+onward-same (gives end) f g h = refl
+onward-same (refuses n p) f g h = refl
+
+-- as many steps as bytes are left, and one, are enough, so more change nothing
+enough : (s : List ℕ) (n m offset : ℕ) → offset ≤ length s → length s < n + offset → length s < m + offset
+    → iterateFor n s offset ≡ iterateFor m s offset
+unfolding iterateFor
+enough s zero m offset i h k = absurd (omega arith)
+enough s (suc n) zero offset i h k = absurd (omega arith)
+enough s (suc n) (suc m) offset i h k =
+    onward-same (step s (cursor offset false)) (iterateFor n s) (iterateFor m s)
+    (λ e x. let y = step-yields s (cursor offset false) e x in enough s n m (past e) (y .inside) (omega arith) (omega arith))
+
+pub iterate-eq : (s : List ℕ) (offset : ℕ) → iterate s offset ≡ onward (step s (cursor offset false)) (iterate s)
+unfolding iterate iterateFor
+iterate-eq s offset =
+    onward-same (step s (cursor offset false)) (iterateFor (length s) s) (iterate s)
+    (λ e x. let y = step-yields s (cursor offset false) e x in enough s (length s) (suc (length s)) (past e) (y .inside) (omega arith) (omega arith))
+
+-- each element of the iteration is what the step behind the one before it yields
+abbrev pub Each : List ℕ → ℕ → Iteration → Type 0
+Each s offset ended = record {}
+Each s offset (broken n p) = record {}
+Each s offset (more e rest) = Yields s (cursor offset false) e × Each s (past e) rest
+
+each-onward : (s : List ℕ) (offset : ℕ) (f : ℕ → Iteration) → ((next : ℕ) → Each s next (f next))
+    → (x : Answer Step) → step s (cursor offset false) ≡ x → Each s offset (onward x f)
+each-onward s offset f h (gives (yield e)) q = (step-yields s (cursor offset false) e q, h (past e))
+each-onward s offset f h (gives end) q = record {}
+each-onward s offset f h (refuses n p) q = record {}
+
+each-for : (n : ℕ) (s : List ℕ) (offset : ℕ) → Each s offset (iterateFor n s offset)
+unfolding iterateFor
+each-for zero s offset = record {}
+each-for (suc n) s offset = each-onward s offset (iterateFor n s) (each-for n s) (step s (cursor offset false)) refl
+
+pub iterate-each : (s : List ℕ) (offset : ℕ) → Each s offset (iterate s offset)
+unfolding iterate
+iterate-each s offset = each-for (suc (length s)) s offset

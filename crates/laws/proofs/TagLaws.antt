@@ -1,0 +1,62 @@
+-- The tag table: a type says how the size of its values is found. Assumes nothing.
+use Prim.Native.Nat.{ℕ}
+use mathlib.Core.Path.{_≡_, refl, subst, ap, _∙_}
+use mathlib.Core.List.{List, [], _∷_}
+use lib.Dec.{eqb}
+use Rattle.bson.specs.Answer.{gives}
+use Rattle.bson.specs.Tags
+use Rattle.laws.proofs.AnswerLaws.{never, gives-injective, then-gives, then-from}
+use Rattle.laws.proofs.Common.{split}
+use Tags.{ElementType, Boolean, Int32, Double, Int64, DateTime, Timestamp, ObjectId, Decimal128, Null, Undefined, MinKey, MaxKey}
+use Tags.{String, JavaScriptCode, Symbol, DbPointer, EmbeddedDocument, Array, Binary, RegularExpression, JavaScriptCodeWithScope}
+use Tags.{Sized, fixed, asString, asPointer, asDocument, asBinary, asRegex, asScope, Row, tags, find, rowOf, typeOf, sizedOf}
+
+abbrev pub sizeFor : ElementType → Sized
+sizeFor Boolean = fixed 1
+sizeFor Int32 = fixed 4
+sizeFor Double = fixed 8
+sizeFor Int64 = fixed 8
+sizeFor DateTime = fixed 8
+sizeFor Timestamp = fixed 8
+sizeFor ObjectId = fixed 12
+sizeFor Decimal128 = fixed 16
+sizeFor Null = fixed 0
+sizeFor Undefined = fixed 0
+sizeFor MinKey = fixed 0
+sizeFor MaxKey = fixed 0
+sizeFor String = asString
+sizeFor JavaScriptCode = asString
+sizeFor Symbol = asString
+sizeFor DbPointer = asPointer
+sizeFor EmbeddedDocument = asDocument
+sizeFor Array = asDocument
+sizeFor Binary = asBinary
+sizeFor RegularExpression = asRegex
+sizeFor JavaScriptCodeWithScope = asScope
+
+-- what holds of every row of a table holds of the row found
+abbrev Every : (Row → Type 0) → List Row → Type 0
+Every P [] = record {}
+Every P (r ∷ rs) = P r × Every P rs
+
+found-of : (P : Row → Type 0) (rs : List Row) (tag : ℕ) (r : Row) → Every P rs → find rs tag ≡ gives r → P r
+found-of P [] tag r h e = never e
+found-of P (q ∷ rs) tag r h e =
+    split (eqb (q .tag) tag)
+    (λ t. subst P (gives-injective (rw t at e)) (h .0))
+    (λ t. found-of P rs tag r (h .1) (rw t at e))
+
+abbrev SizedRight : Row → Type 0
+SizedRight r = r .sized ≡ sizeFor (r .type)
+
+rows-sized : Every SizedRight tags
+unfolding tags
+rows-sized = search refl
+
+pub type-sized : (tag : ℕ) (t : ElementType) → typeOf tag ≡ gives t → sizedOf tag ≡ gives (sizeFor t)
+unfolding rowOf
+type-sized tag t e =
+    let (r, q, h) = then-gives (rowOf tag) _ e in
+    let i : r .type ≡ t = gives-injective h in
+    let f : r .sized ≡ sizeFor t = found-of SizedRight tags tag r rows-sized q ∙ ap sizeFor i in
+    then-from (rowOf tag) _ q ∙ ap gives f

@@ -1,0 +1,1 @@
+// What follows from the definition stands in proofs/. There is no code.
