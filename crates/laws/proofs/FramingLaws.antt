@@ -5,15 +5,16 @@ use mathlib.Core.List.{List}
 use native.Mathlib.Omega.{arith}
 use lib.ListN.{length, getD, take, drop, length-drop}
 use lib.Dec.{leb, ltb, eqb}
-use borrow.Author.Tests.{leb-true, ltb-true, eqb-true}
-use Rattle.bson.specs.Answer.{gives}
+use borrow.Author.Tests.{leb-true, leb-false, ltb-true, eqb-true}
+use Rattle.bson.specs.Answer.{gives, refuses}
 use Rattle.bson.specs.Bytes.{le32, natural, Part, part}
 use Rattle.bson.specs.Utf8.{utf8}
 use Rattle.bson.specs.Cstring.{firstZero, cstring}
 use Rattle.bson.specs.Tags.{Sized, fixed, asString, asPointer, asDocument, asBinary, asRegex, asScope, sizedOf}
-use Rattle.bson.specs.Framing.{lengthField, fits, zeroEnded, stringSize, pointerSize, documentSize, binarySize, scopeSize}
+use Rattle.bson.specs.Framing.{lengthField, fits, inFront, zeroEnded, stringSize, pointerSize, documentSize, binarySize, scopeSize}
 use Rattle.bson.specs.Framing.{patternOptions, regexSize, framed, valueSize}
-use Rattle.laws.proofs.AnswerLaws.{gives-injective, unless-gives, then-gives}
+use Rattle.laws.proofs.Common.{split}
+use Rattle.laws.proofs.AnswerLaws.{never, gives-injective, unless-gives, then-gives}
 
 -- the zero is in the list too
 pub cstring-below : (v : List ℕ) (k : ℕ) → cstring v ≡ gives k → k < length v
@@ -40,6 +41,20 @@ fits-is size v n e =
     let (t, e1) = unless-gives (leb size (length v)) 9 _ e in
     let i : size ≡ n = gives-injective e1 in
     (sym i, omega (arith, leb-true size (length v) t))
+
+-- a number in front, where there are bytes enough
+pub in-front-is : {A : Type 0} (size : ℕ) (number : List ℕ → A) (v : List ℕ) (a : A) → inFront size number v ≡ gives a
+    → (size ≤ length v) × (number v ≡ a)
+in-front-is size number v a e =
+    let (n, q, h) = then-gives (fits size v) _ e in
+    let f = fits-is size v n q in
+    (omega arith, gives-injective h)
+
+pub in-front-refuses : {A : Type 0} (size : ℕ) (number : List ℕ → A) (v : List ℕ) (n p : ℕ) → inFront size number v ≡ refuses n p
+    → length v < size
+unfolding fits
+in-front-refuses size number v n p e =
+    split (leb size (length v)) (λ t. never (sym (rw t at e))) (λ t. leb-false size (length v) t)
 
 pub zero-ended-is : (size : ℕ) (v : List ℕ) (n : ℕ) → zeroEnded size v ≡ gives n → (n ≡ size) × (n ≤ length v) × (getD v (n - 1) 0 ≡ 0)
 unfolding zeroEnded

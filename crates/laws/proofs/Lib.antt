@@ -7,3 +7,4 @@ pub mod Determined
 pub mod FramingLaws
 pub mod StepLaws
 pub mod TagLaws
+pub mod Utf8Laws

@@ -51,7 +51,7 @@ SizedRight r = r .sized ≡ sizeFor (r .type)
 
 rows-sized : Every SizedRight tags
 unfolding tags
-rows-sized = search refl
+rows-sized = search
 
 pub type-sized : (tag : ℕ) (t : ElementType) → typeOf tag ≡ gives t → sizedOf tag ≡ gives (sizeFor t)
 unfolding rowOf

@@ -1,0 +1,4 @@
+pub mod AsciiLaws
+pub mod CharsLaws
+pub mod Determined
+pub mod TextLaws
