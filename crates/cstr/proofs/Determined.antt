@@ -1,0 +1,30 @@
+-- Determined: the promise of each call allows one answer (document 01, "What every answer is bound to"). Assumes nothing.
+use mathlib.Core.Path.{_≡_, refl, sym, _∙_}
+use contract.Lifetimes.{Lfts}
+use borrow.Fn.Kinds.{Dens}
+use Rattle.laws.proofs.Determined.{Determined, injective-by, unsaid}
+use Rattle.cstr.specs.Said.{said}
+use Rattle.cstr.specs.declared.Length.{Length}
+use Rattle.cstr.specs.declared.Length.the-variants.{Is, Refused}
+use Rattle.cstr.proofs.read_cstring.Reads as read-cstring-reads
+use Rattle.cstr.proofs.read_cstring.Kinds as read-cstring-kinds
+use Rattle.cstr.proofs.is_valid_cstr.Reads as is-valid-cstr-reads
+use Rattle.cstr.proofs.is_valid_cstr.Kinds as is-valid-cstr-kinds
+use Rattle.cstr.proofs.equal.Reads as equal-reads
+use Rattle.cstr.proofs.equal.Kinds as equal-kinds
+
+again : (r : Length) → unsaid Is Refused (said r) ≡ r
+again (Is n) = refl
+again (Refused k) = refl
+
+pub said-injective : (a b : Length) → said a ≡ said b → a ≡ b
+said-injective = injective-by said (unsaid Is Refused) again
+
+pub read-cstring-determined : (κs : Lfts 1) (a : Dens κs read-cstring-kinds.ps) → Determined (read-cstring-reads.Post κs a)
+read-cstring-determined κs a r₁ r₂ s₁ s₂ p q = said-injective r₁ r₂ (p ∙ sym q)
+
+pub is-valid-cstr-determined : (κs : Lfts 1) (a : Dens κs is-valid-cstr-kinds.ps) → Determined (is-valid-cstr-reads.Post κs a)
+is-valid-cstr-determined κs a r₁ r₂ s₁ s₂ p q = p ∙ sym q
+
+pub equal-determined : (κs : Lfts 2) (a : Dens κs equal-kinds.ps) → Determined (equal-reads.Post κs a)
+equal-determined κs a r₁ r₂ s₁ s₂ p q = p ∙ sym q

@@ -1,0 +1,45 @@
+-- `cstr::read_mixed` meets its contract: each way out by the tests that led there. Assumes nothing.
+use mathlib.Core.Path.{sym}
+use borrow.Author.Tests.{lt-ltb, le-ltb}
+use lib.Seq.{length-take-le}
+use Rattle.bson.specs.Cstring.{cstring}
+use borrow.Author.Needs.{needs}
+use native.Mathlib.Omega.{arith}
+use Rattle.cstr.proofs.read_mixed.Statement.{statement}
+use Rattle.cstr.proofs.read_mixed.Tie as tie
+
+first-zero-requires : tie.Need-first-zero-requires
+first-zero-requires c κs = search needs
+
+slice-aggregate-is-utf8 : tie.Need-slice-aggregate-is-utf8
+slice-aggregate-is-utf8 c = sym (length-take-le _ _ (omega arith))
+
+is-utf8-requires : tie.Need-is-utf8-requires
+is-utf8-requires c κs = search needs
+
+returns : tie.Need-returns
+unfolding cstring
+returns c =
+    let b = c .before .before .before in
+    rw (← b .before .first-zero .ensures, lt-ltb _ _ (b .if1 .taken), ← c .before .is-utf8 .ensures, c .if2 .taken)
+
+returns-2 : tie.Need-returns-2
+unfolding cstring
+returns-2 c =
+    let b = c .before .before .before in
+    rw (← b .before .first-zero .ensures, lt-ltb _ _ (b .if1 .taken), ← c .before .is-utf8 .ensures, c .if2 .left)
+
+returns-3 : tie.Need-returns-3
+unfolding cstring
+returns-3 c = rw (← c .before .first-zero .ensures, le-ltb _ _ (c .if1 .left))
+
+pub read-mixed-spec : {M : Type 1} → statement M
+read-mixed-spec =
+    tie.close
+    (tie.spec
+    first-zero-requires
+    slice-aggregate-is-utf8
+    is-utf8-requires
+    returns
+    returns-2
+    returns-3)

@@ -1,0 +1,9 @@
+-- What each case of `Length` says on paper.
+use Prim.Native.Nat.{ℕ}
+use Rattle.bson.specs.Answer.{Answer, gives, refuses}
+use Rattle.cstr.specs.declared.Length.{Length}
+use Rattle.cstr.specs.declared.Length.the-variants.{Is, Refused}
+
+abbrev pub said : Length → Answer ℕ
+said (Is n) = gives n
+said (Refused number) = refuses number 0

@@ -1,0 +1,146 @@
+// Zero-ended texts at the front of a part, and keys (src/raw.rs and src/raw/cstr.rs of the Rust).
+ghost use mathlib.Core.Path.{_≡_};
+ghost use Prim.Native.Nat.{_+_, _≤_};
+ghost use lib.ListN.{length, drop};
+ghost use Rattle.bson.specs.Bytes.{same};
+ghost use Rattle.bson.specs.Cstring.{firstZero, cstring, validCstr};
+ghost use Rattle.cstr.specs.Said.{said};
+ghost use Rattle.cstr.specs.Scan.{stopsAt, plain, PlainOf};
+
+// How many bytes a text or a value has, or the number of the refusal.
+pub enum Length {
+    Is(usize),
+    Refused(u8),
+}
+
+// A zero byte, or one that is not ASCII.
+fn stops(b: u8) -> bool
+    ensures { λ r. ⌜ r ≡ stopsAt b ⌝ }
+{
+    (b == 0) | (127 < b)
+}
+
+// The offset of the first byte that stops, from an offset on; the length where there is none.
+fn plain_rest(v: &[u8], from: usize) -> usize
+    requires { ⌜ from ≤ length (now v) ⌝ }
+    ensures { λ r. ⌜ r ≡ from + plain (drop from (now (v .entry))) ⌝ }
+{
+    let mut i = from;
+    while i < v.len() {
+        if stops(v[i]) {
+            return i;
+        }
+        i += 1;
+    }
+    i
+}
+
+// How many of two bytes stand before the first that stops.
+fn plain_of_two(v: &[u8], offset: usize) -> usize
+    requires { ⌜ offset + 2 ≤ length (now v) ⌝ }
+    ensures { λ r. ⌜ PlainOf 2 (now (v .entry)) offset r ⌝ }
+{
+    if stops(v[offset]) {
+        return 0;
+    }
+    if stops(v[offset + 1]) {
+        return 1;
+    }
+    2
+}
+
+// How many of four.
+fn plain_of_four(v: &[u8], offset: usize) -> usize
+    requires { ⌜ offset + 4 ≤ length (now v) ⌝ }
+    ensures { λ r. ⌜ PlainOf 4 (now (v .entry)) offset r ⌝ }
+{
+    let n = plain_of_two(v, offset);
+    if n < 2 {
+        return n;
+    }
+    2 + plain_of_two(v, offset + 2)
+}
+
+// How many bytes stand before the first that stops, four a turn.
+fn plain_end(v: &[u8]) -> usize
+    ensures { λ r. ⌜ r ≡ plain (now (v .entry)) ⌝ }
+{
+    let mut i = 0;
+    while 4 <= v.len() - i {
+        let n = plain_of_four(v, i);
+        if n < 4 {
+            return i + n;
+        }
+        i += 4;
+    }
+    plain_rest(v, i)
+}
+
+// The offset of the first zero byte, or the length where there is none.
+fn first_zero(v: &[u8]) -> usize
+    ensures { λ r. ⌜ r ≡ firstZero (now (v .entry)) ⌝ }
+{
+    let mut i = 0;
+    while i < v.len() {
+        if v[i] == 0 {
+            return i;
+        }
+        i += 1;
+    }
+    i
+}
+
+// Two passes: the zero byte, then UTF-8.
+fn read_mixed(v: &[u8]) -> Length
+    ensures { λ r. ⌜ said r ≡ cstring (now (v .entry)) ⌝ }
+{
+    let n = first_zero(v);
+    if n < v.len() {
+        if utf8::is_utf8(&v[..n]) {
+            return Length::Is(n);
+        }
+        return Length::Refused(6);
+    }
+    Length::Refused(5)
+}
+
+// The size of the text in front of the first zero byte: 5 where there is no zero, 6 where it is not UTF-8.
+pub fn read_cstring(v: &[u8]) -> Length
+    ensures { λ r. ⌜ said r ≡ cstring (now (v .entry)) ⌝ }
+{
+    let i = plain_end(v);
+    if i < v.len() {
+        if v[i] == 0 {
+            return Length::Is(i);
+        }
+        return read_mixed(v);
+    }
+    Length::Refused(5)
+}
+
+// Whether the bytes can be a key, a pattern or options: UTF-8 and no zero byte.
+pub fn is_valid_cstr(k: &[u8]) -> bool
+    ensures { λ r. ⌜ r ≡ validCstr (now (k .entry)) ⌝ }
+{
+    if first_zero(k) == k.len() {
+        return utf8::is_utf8(k);
+    }
+    false
+}
+
+// Whether two keys have equal bytes.
+pub fn equal(a: &[u8], b: &[u8]) -> bool
+    ensures { λ r. ⌜ r ≡ same (now (a .entry)) (now (b .entry)) ⌝ }
+{
+    if a.len() != b.len() {
+        return false;
+    }
+    let mut i = 0;
+    while i < a.len() {
+        if a[i] != b[i] {
+            return false;
+        }
+        i += 1;
+    }
+    true
+}
