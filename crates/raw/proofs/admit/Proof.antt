@@ -1,0 +1,88 @@
+-- `raw::admit` meets its contract: each way out by the tests that led there. Assumes nothing.
+use mathlib.Core.Path.{ap, sym, _∙_}
+use borrow.Author.Tests.{le-leb, lt-leb, lt-ltb, le-ltb, eq-eqb, ne-eqb}
+use lib.ListN.{length}
+use Rattle.bson.specs.Bytes.{le32}
+use Rattle.bson.specs.Step.{admitted}
+use Rattle.num.specs.Said.{saidUint32}
+use Rattle.laws.proofs.FramingLaws.{in-front-is, in-front-refuses}
+use borrow.Author.Needs.{needs}
+use native.Mathlib.Omega.{arith}
+use Rattle.raw.proofs.admit.Statement.{statement}
+use Rattle.raw.proofs.admit.Tie as tie
+
+u32-from-slice-requires : tie.Need-u32-from-slice-requires
+u32-from-slice-requires c κs = search needs
+
+enum-told : tie.Need-enum-told
+enum-told c = search needs
+
+enum-known-n : tie.Need-enum-known-n
+enum-known-n c = search needs
+
+returns : tie.Need-returns
+unfolding admitted
+returns c = rw (lt-leb _ _ (c .if1 .taken))
+
+returns-2 : tie.Need-returns-2
+unfolding admitted
+returns-2 c =
+    let d = c .before .before .before in
+    let e = in-front-is 4 le32 _ _ (sym (d .before .before .u32-from-slice .ensures) ∙ ap saidUint32 (d .n .given .1)) in
+    rw (le-leb _ _ (c .before .if1 .left), e .1, le-ltb _ _ (c .if2 .taken))
+
+cast-if3 : tie.Need-cast-if3
+cast-if3 c = search needs
+
+returns-3 : tie.Need-returns-3
+unfolding admitted
+returns-3 c =
+    let d = c .before .before .before .before in
+    let e = in-front-is 4 le32 _ _ (sym (d .before .before .u32-from-slice .ensures) ∙ ap saidUint32 (d .n .given .1)) in
+    rw (le-leb _ _ (c .before .before .if1 .left), e .1, lt-ltb _ _ (c .before .if2 .left), ne-eqb _ _ (c .if3 .taken))
+
+sub-if4 : tie.Need-sub-if4
+sub-if4 c = search needs
+
+shared-slice-read-if4 : tie.Need-shared-slice-read-if4
+shared-slice-read-if4 c = search needs
+
+returns-4 : tie.Need-returns-4
+unfolding admitted
+returns-4 c =
+    let b = c .before .before in
+    let h = in-front-refuses 4 le32 _ _ _ (sym (b .u32-from-slice .ensures) ∙ ap saidUint32 (c .enum-told .given .1)) in
+    rw (lt-leb 5 (length (b .before .before .args .s .now)) (omega arith))
+
+returns-5 : tie.Need-returns-5
+unfolding admitted
+returns-5 c =
+    let b = c .before .before in
+    let d = b .before .before .before .before in
+    let e = in-front-is 4 le32 _ _ (sym (d .before .before .u32-from-slice .ensures) ∙ ap saidUint32 (d .n .given .1)) in
+    rw (le-leb _ _ (b .before .before .if1 .left), e .1, lt-ltb _ _ (b .before .if2 .left), eq-eqb _ _ (b .if3 .left), eq-eqb _ _ (c .if4 .taken))
+
+returns-6 : tie.Need-returns-6
+unfolding admitted
+returns-6 c =
+    let b = c .before .before in
+    let d = b .before .before .before .before in
+    let e = in-front-is 4 le32 _ _ (sym (d .before .before .u32-from-slice .ensures) ∙ ap saidUint32 (d .n .given .1)) in
+    rw (le-leb _ _ (b .before .before .if1 .left), e .1, lt-ltb _ _ (b .before .if2 .left), eq-eqb _ _ (b .if3 .left), ne-eqb _ _ (c .if4 .left))
+
+pub admit-spec : {M : Type 1} → statement M
+admit-spec =
+    tie.close
+    (tie.spec
+    u32-from-slice-requires
+    enum-told
+    enum-known-n
+    returns
+    returns-2
+    cast-if3
+    returns-3
+    sub-if4
+    shared-slice-read-if4
+    returns-4
+    returns-5
+    returns-6)

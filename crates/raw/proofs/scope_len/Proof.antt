@@ -1,0 +1,38 @@
+-- `raw::scope_len` meets its contract: what the length field gives decides. Assumes nothing.
+use mathlib.Core.Path.{ap, sym, _∙_}
+use Rattle.bson.specs.Framing.{scopeSize}
+use Rattle.cstr.specs.Said.{said}
+use borrow.Author.Needs.{needs}
+use Rattle.raw.proofs.scope_len.Statement.{statement}
+use Rattle.raw.proofs.scope_len.Tie as tie
+
+length-field-requires : tie.Need-length-field-requires
+length-field-requires c κs = search needs
+
+enum-known-why : tie.Need-enum-known-why
+enum-known-why c = search needs
+
+enum-known-n : tie.Need-enum-known-n
+enum-known-n c = search needs
+
+fixed-len-requires : tie.Need-fixed-len-requires
+fixed-len-requires c κs = search needs
+
+returns : tie.Need-returns
+unfolding scopeSize
+returns c = rw (sym (c .before .before .before .length-field .ensures) ∙ ap said (c .before .why .given .1))
+
+returns-2 : tie.Need-returns-2
+unfolding scopeSize
+returns-2 c = rw (sym (c .before .before .before .before .length-field .ensures) ∙ ap said (c .before .before .n .given .1)) (c .fixed-len .ensures)
+
+pub scope-len-spec : {M : Type 1} → statement M
+scope-len-spec =
+    tie.close
+    (tie.spec
+    length-field-requires
+    enum-known-why
+    enum-known-n
+    fixed-len-requires
+    returns
+    returns-2)
