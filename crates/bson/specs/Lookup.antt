@@ -1,11 +1,11 @@
--- Lookup and typed lookup, along the iteration (document 01, "Values").
+-- Lookup and typed lookup, along the iteration, and `is_empty` (document 01, "Values" and module 5).
 use Prim.Native.Nat.{ℕ}
 use mathlib.Core.List.{List}
-use mathlib.Core.Bool.{cond}
+use mathlib.Core.Bool.{Bool, cond}
 use lib.Dec.{eqb}
 use Rattle.bson.specs.Answer.{Answer, gives, refuses, then, at, unless}
 use Rattle.bson.specs.Bytes.{bytes, same}
-use Rattle.bson.specs.Step.{terminator, Element, Iteration, ended, broken, more, iterate}
+use Rattle.bson.specs.Step.{terminator, admitted, Element, Iteration, ended, broken, more, iterate}
 use Rattle.bson.specs.Value.{Value, valueOf}
 
 pub record Found : Type 0 where
@@ -31,3 +31,7 @@ unfoldable pub getWith : List ℕ → List ℕ → ℕ → Answer Found
 getWith s key tag =
     then (get s key) λ f.
     at (f .element .place) (unless (eqb (f .element .tag) tag) 17 (gives f))
+
+-- `is_empty`: a document of five bytes has no element
+unfoldable pub isEmpty : List ℕ → Answer Bool
+isEmpty s = then (admitted s) λ n. gives (eqb n 5)
