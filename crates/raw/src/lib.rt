@@ -47,14 +47,15 @@ fn zero_ended_len(v: &[u8], size: usize) -> Length
     requires { ⌜ 0 < size ⌝ }
     ensures { λ r. ⌜ said r ≡ zeroEnded size (now (v .entry)) ⌝ }
 {
-    if size <= v.len() {
-        if v[size - 1] == 0 {
-            Length::Is(size)
-        } else {
-            Length::Refused(10)
+    match fixed_len(v, size) {
+        Length::Refused(why) => Length::Refused(why),
+        Length::Is(n) => {
+            if v[n - 1] == 0 {
+                Length::Is(n)
+            } else {
+                Length::Refused(10)
+            }
         }
-    } else {
-        Length::Refused(9)
     }
 }
 

@@ -1,28 +1,56 @@
--- `raw::zero_ended_len` meets its contract: each way out by the tests that led there. Assumes nothing.
-use borrow.Author.Tests.{le-leb, lt-leb, eq-eqb, ne-eqb}
-use Rattle.bson.specs.Framing.{fits, zeroEnded}
+-- `raw::zero_ended_len` meets its contract: what fits has a last byte, which decides. Assumes nothing.
+use mathlib.Core.Path.{ap, sym, _∙_}
+use borrow.Author.Tests.{eq-eqb, ne-eqb}
+use Rattle.bson.specs.Framing.{zeroEnded}
+use Rattle.laws.proofs.FramingLaws.{fits-is}
+use Rattle.cstr.specs.Said.{said}
 use borrow.Author.Needs.{needs}
+use native.Mathlib.Omega.{arith}
 use Rattle.raw.proofs.zero_ended_len.Statement.{statement}
 use Rattle.raw.proofs.zero_ended_len.Tie as tie
 
-sub-if2 : tie.Need-sub-if2
-sub-if2 c = search needs
+fixed-len-requires : tie.Need-fixed-len-requires
+fixed-len-requires c κs = search needs
 
-shared-slice-read-if2 : tie.Need-shared-slice-read-if2
-shared-slice-read-if2 c = search needs
+enum-known-why : tie.Need-enum-known-why
+enum-known-why c = search needs
+
+enum-known-n : tie.Need-enum-known-n
+enum-known-n c = search needs
+
+sub-if1 : tie.Need-sub-if1
+sub-if1 c = omega (arith, fits-is _ _ _ (sym (c .before .before .before .fixed-len .ensures) ∙ ap said (c .before .n .given .1)))
+
+shared-slice-read-if1 : tie.Need-shared-slice-read-if1
+shared-slice-read-if1 c =
+    let d = c .before .before in
+    omega (arith, fits-is _ _ _ (sym (d .before .before .fixed-len .ensures) ∙ ap said (d .n .given .1)))
 
 returns : tie.Need-returns
-unfolding fits zeroEnded
-returns c = rw (le-leb _ _ (c .before .before .if1 .taken), eq-eqb _ _ (c .if2 .taken))
+unfolding zeroEnded
+returns c = rw (sym (c .before .before .before .fixed-len .ensures) ∙ ap said (c .before .why .given .1))
 
 returns-2 : tie.Need-returns-2
-unfolding fits zeroEnded
-returns-2 c = rw (le-leb _ _ (c .before .before .if1 .taken), ne-eqb _ _ (c .if2 .left))
+unfolding zeroEnded
+returns-2 c =
+    let d = c .before .before .before in
+    rw (sym (d .before .before .fixed-len .ensures) ∙ ap said (d .n .given .1), eq-eqb _ _ (c .if1 .taken))
 
 returns-3 : tie.Need-returns-3
-unfolding fits zeroEnded
-returns-3 c = rw (lt-leb _ _ (c .if1 .left))
+unfolding zeroEnded
+returns-3 c =
+    let d = c .before .before .before in
+    rw (sym (d .before .before .fixed-len .ensures) ∙ ap said (d .n .given .1), ne-eqb _ _ (c .if1 .left))
 
 pub zero-ended-len-spec : {M : Type 1} → statement M
 zero-ended-len-spec =
-    tie.close (tie.spec sub-if2 shared-slice-read-if2 returns returns-2 returns-3)
+    tie.close
+    (tie.spec
+    fixed-len-requires
+    enum-known-why
+    enum-known-n
+    sub-if1
+    shared-slice-read-if1
+    returns
+    returns-2
+    returns-3)
