@@ -1,0 +1,16 @@
+-- `vectors::wide` meets its contract: what 32 bits hold 64 bits hold. Assumes nothing.
+use native.Mathlib.Omega.{arith}
+use mir.Syntax.{w32}
+use mir.ValLaws.{toZ-ofZ}
+use borrow.Author.Needs.{needs}
+use Rattle.vectors.proofs.wide.Statement.{statement}
+use Rattle.vectors.proofs.wide.Tie as tie
+
+cast-result : tie.Need-cast-result
+cast-result c = rw (toZ-ofZ w32 (c .args .x) (c .fits .x)) (record { sfits = omega arith })
+
+returns : tie.Need-returns
+returns c = search needs
+
+pub wide-spec : {M : Type 1} → statement M
+wide-spec = tie.close (tie.spec cast-result returns)
