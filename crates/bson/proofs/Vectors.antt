@@ -1,49 +1,17 @@
 -- The definition says of P1 to P12 what document 01 says. Assumes nothing.
-use mathlib.Core.Path.{refl}
-use Rattle.bson.specs.Bytes.{le32, le64, i32, i64, bytes}
+use mathlib.Core.Path.{_≡_, refl}
+use Rattle.bson.specs.Bytes.{le32, le64, signed, i32, i64, bytes}
 use Rattle.bson.specs.Utf8.{rows, utf8}
 use Rattle.bson.specs.Cstring.{cstring}
 use Rattle.bson.specs.Tags.{tags, rowOf}
-use Rattle.bson.specs.Framing.{lengthField, fits, zeroEnded, stringSize, pointerSize, documentSize, binarySize, scopeSize, patternOptions, regexSize, framed, valueSize}
+use Rattle.bson.specs.Framing.{lengthField, fits, zeroEnded, stringSize, pointerSize, documentSize, binarySize, scopeSize}
+use Rattle.bson.specs.Framing.{patternOptions, regexSize, framed, valueSize}
 use Rattle.bson.specs.Step.{admitted, element, step, iterateFor, iterate}
 use Rattle.bson.specs.Value.{bool, text, binaryValue, scopeValue, content, valueOf, readAt}
 use Rattle.bson.specs.Lookup.{get}
 use Rattle.bson.specs.Check.{visit, walkFor, walk, check}
-use Rattle.bson.specs.Vectors.{vectors, AllHold}
+use Rattle.bson.specs.Vectors.{vectors, says}
 
-pub vectors-hold : AllHold vectors
-unfolding le32 le64 i32 i64 bytes rows utf8 cstring tags rowOf lengthField fits zeroEnded stringSize pointerSize documentSize binarySize scopeSize patternOptions regexSize framed valueSize admitted element step iterateFor iterate bool text binaryValue scopeValue content valueOf readAt get visit walkFor walk check vectors
-vectors-hold = (
-  (refl, refl, record {}, refl),
-  (
-    (refl, refl, record {}, refl),
-    (
-      (refl, refl, record {}, refl),
-      (
-        (refl, refl, record {}, refl),
-        (
-          (refl, refl, record {}, refl),
-          (
-            (refl, refl, record {}, refl),
-            (
-              (refl, refl, record {}, refl),
-              (
-                (refl, refl, record {}, refl),
-                (
-                  (refl, refl, record {}, refl),
-                  (
-                    (refl, refl, record {}, refl),
-                    (
-                      (refl, refl, record {}, refl),
-                      ((refl, refl, (refl, record {}), refl), record {}),
-                    ),
-                  ),
-                ),
-              ),
-            ),
-          ),
-        ),
-      ),
-    ),
-  ),
-)
+pub vectors-hold : says vectors ≡ vectors
+unfolding le32 le64 signed i32 i64 bytes rows utf8 cstring tags rowOf lengthField fits zeroEnded stringSize pointerSize documentSize binarySize scopeSize patternOptions regexSize framed valueSize admitted element step iterateFor iterate bool text binaryValue scopeValue content valueOf readAt get visit walkFor walk check vectors
+vectors-hold = refl

@@ -1,12 +1,10 @@
 -- Bytes and numbers: little-endian, signed by two's complement (document 01, module 1; BSON 1.1, "Basic Types").
-use Prim.Native.Nat.{ℕ, _+_, _*_, _-_}
+use Prim.Native.Nat.{ℕ, suc, _+_, _*_, _-_}
 use mathlib.Core.List.{List, [], _∷_}
-use mathlib.Core.Bool.{Bool, true, false, _&&_}
+use mathlib.Core.Bool.{Bool, true, false, cond, _&&_}
 use lib.ListN.{getD, take, drop}
 use lib.Dec.{eqb, ltb}
-use lib.IntN.{ℤ}
-use mir.Syntax.{w32, w64}
-use mir.Val.{toZ}
+use lib.IntN.{ℤ, pos, negsuc}
 
 -- the unsigned number of the four bytes in front, least first
 unfoldable pub le32 : List ℕ → ℕ
@@ -16,16 +14,19 @@ le32 v = getD v 0 0 + 256 * getD v 1 0 + 65536 * getD v 2 0 + 16777216 * getD v 
 unfoldable pub le64 : List ℕ → ℕ
 le64 v = le32 v + 4294967296 * le32 (drop 4 v)
 
--- the same bits, read as signed: `toZ` is the machine's own reading
+-- two's complement: the upper half of the numbers is those from -1 down (`negsuc n` is -1 - n)
+unfoldable pub signed : ℕ → ℕ → ℤ
+signed half n = cond (ltb n half) (pos n) (negsuc (half + half - suc n))
+
 unfoldable pub i32 : List ℕ → ℤ
-i32 v = toZ w32 (le32 v)
+i32 v = signed 0x8000_0000 (le32 v)
 
 unfoldable pub i64 : List ℕ → ℤ
-i64 v = toZ w64 (le64 v)
+i64 v = signed 0x8000_0000_0000_0000 (le64 v)
 
 -- an i32 is not negative where its bits are below 2³¹
 abbrev pub natural : ℕ → Bool
-natural bits = ltb bits 2147483648
+natural bits = ltb bits 0x8000_0000
 
 -- a part of a slice: where it begins and how many bytes it has
 pub record Part : Type 0 where

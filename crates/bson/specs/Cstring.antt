@@ -1,7 +1,7 @@
 -- Zero-ended texts: keys, patterns and options (document 01, modules 1 and 2; BSON 1.1, `cstring`).
 use Prim.Native.Nat.{ℕ, suc}
 use mathlib.Core.List.{List, [], _∷_}
-use mathlib.Core.Bool.{Bool, true, false, cond, _&&_}
+use mathlib.Core.Bool.{Bool, cond, _&&_}
 use lib.ListN.{length, take}
 use lib.Dec.{ltb, eqb}
 use Rattle.bson.specs.Answer.{Answer, gives, unless}

@@ -1,6 +1,5 @@
 -- The rows marked P of document 01, "Bytes to try", as a single list under a single claim.
 use Prim.Native.Nat.{ℕ, _+_}
-use mathlib.Core.Path.{_≡_}
 use mathlib.Core.List.{List, [], _∷_}
 use mathlib.Core.Bool.{true, false}
 use lib.IntN.{pos}
@@ -29,23 +28,19 @@ readEach s ended = []
 readEach s (broken n p) = []
 readEach s (more e rest) = readAt s (e .place) ∷ readEach s rest
 
-abbrev pub LooksUp : List ℕ → List (List ℕ × Answer Value) → Type 0
-LooksUp s [] = record {}
-LooksUp s (l ∷ ls) = (then (get s (l .0)) (λ f. gives (f .value)) ≡ l .1) × LooksUp s ls
-
-abbrev pub Holds : Vector → Type 0
-Holds x =
-    (iterate (x .slice) 4 ≡ x .iteration)
-    × (readEach (x .slice) (x .iteration) ≡ x .readings)
-    × LooksUp (x .slice) (x .lookups)
-    × (check false (x .slice) ≡ x .verdict)
-
-abbrev pub AllHold : List Vector → Type 0
-AllHold [] = record {}
-AllHold (x ∷ xs) = Holds x × AllHold xs
+abbrev pub lookEach : List ℕ → List (List ℕ × Answer Value) → List (List ℕ × Answer Value)
+lookEach s [] = []
+lookEach s (l ∷ ls) = (l .0, then (get s (l .0)) λ f. gives (f .value)) ∷ lookEach s ls
 
 abbrev pub vector : List ℕ → Iteration → List (Answer Value) → List (List ℕ × Answer Value) → Answer ℕ → Vector
 vector s i r l a = record { slice = s; iteration = i; readings = r; lookups = l; verdict = a }
+
+-- what the definition says of each row's bytes and keys
+abbrev pub says : List Vector → List Vector
+says [] = []
+says (x ∷ xs) =
+    let s = x .slice in
+    vector s (iterate s 4) (readEach s (iterate s 4)) (lookEach s (x .lookups)) (check false s) ∷ says xs
 
 unfoldable pub vectors : List Vector
 vectors =

@@ -2,9 +2,7 @@
 ghost use mathlib.Core.Path.{_≡_};
 ghost use Prim.Native.Nat.{_≤_, _<_};
 ghost use lib.ListN.{length};
-ghost use mir.Syntax.{w32, w64};
-ghost use mir.Val.{toZ};
-ghost use Rattle.bson.specs.Bytes.{le32, le64, i32, i64};
+ghost use Rattle.bson.specs.Bytes.{le32, le64, signed, i32, i64};
 ghost use Rattle.bson.specs.Framing.{inFront};
 ghost use Rattle.bson.specs.Value.{bool};
 ghost use Rattle.num.specs.Said.{saidUint32, saidInt32, saidInt64, saidDouble, saidBoolean};
@@ -62,7 +60,7 @@ fn double_word(v: &[u8]) -> u64
 }
 
 fn signed32(x: u32) -> i32
-    ensures { λ r. ⌜ r ≡ toZ w32 x ⌝ }
+    ensures { λ r. ⌜ r ≡ signed 0x8000_0000 x ⌝ }
 {
     if x < 2147483648 {
         x as i32
@@ -72,7 +70,7 @@ fn signed32(x: u32) -> i32
 }
 
 fn signed64(x: u64) -> i64
-    ensures { λ r. ⌜ r ≡ toZ w64 x ⌝ }
+    ensures { λ r. ⌜ r ≡ signed 0x8000_0000_0000_0000 x ⌝ }
 {
     if x < 9223372036854775808 {
         x as i64

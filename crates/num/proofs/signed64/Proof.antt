@@ -1,8 +1,9 @@
 -- `num::signed64` meets its contract, by the law of every width at 64. Assumes nothing.
+use mathlib.Core.Path.{refl}
 use native.Mathlib.Omega.{arith}
 use Prim.Native.Nat.{_-_}
 use mir.Syntax.{w64}
-use Rattle.num.proofs.Signed.{fits, back}
+use Rattle.num.proofs.Signed.{low, fits, back}
 use borrow.Author.Needs.{needs}
 use Rattle.num.proofs.signed64.Statement.{statement}
 use Rattle.num.proofs.signed64.Tie as tie
@@ -17,13 +18,13 @@ cast-result-2 : tie.Need-cast-result-2
 cast-result-2 c = search needs
 
 sub-result-2 : tie.Need-sub-result-2
-sub-result-2 c = fits w64 (c .before .args .x) (18446744073709551615 - c .before .args .x) (omega arith) (omega arith) (omega arith)
+sub-result-2 c = fits w64 0x8000_0000_0000_0000 (c .before .args .x) (18446744073709551615 - c .before .args .x) (omega arith) (omega arith) (omega arith)
 
 returns : tie.Need-returns
-returns c = search needs
+returns c = low w64 0x8000_0000_0000_0000 (c .before .args .x) refl (c .if1 .taken)
 
 returns-2 : tie.Need-returns-2
-returns-2 c = back w64 (c .before .args .x) (18446744073709551615 - c .before .args .x) (omega arith) (omega arith) (omega arith)
+returns-2 c = back w64 0x8000_0000_0000_0000 (c .before .args .x) (18446744073709551615 - c .before .args .x) (omega arith) (omega arith) (omega arith)
 
 pub signed64-spec : {M : Type 1} → statement M
 signed64-spec =
