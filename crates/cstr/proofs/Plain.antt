@@ -7,7 +7,7 @@ use native.Mathlib.Omega.{arith}
 use lib.Dec.{eqb, ltb}
 use lib.ListN.{length, getD, take, drop, List·getD-eq-default}
 use borrow.Author.Tests.{eq-eqb, ltb-false, lt-ltb, le-ltb}
-use Rattle.bson.specs.Answer.{Answer, gives, refuses}
+use Rattle.bson.specs.Answer.{gives, refuses}
 use Rattle.bson.specs.Utf8.{utf8, Left, left, read}
 use Rattle.bson.specs.Cstring.{firstZero, cstring}
 use Rattle.laws.proofs.Common.{split}

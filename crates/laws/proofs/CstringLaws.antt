@@ -11,7 +11,8 @@ use Rattle.bson.specs.Cstring.{before}
 pub before-here : (test : ℕ → Bool) (v : List ℕ) (i : ℕ) → i < length v → test (getD v i 0) ≡ true → before test (drop i v) ≡ 0
 before-here test v i h e = rw (drop-cons v i 0, e)
 
-pub before-not : (test : ℕ → Bool) (v : List ℕ) (i j : ℕ) → j ≡ i + 1 → i < length v → test (getD v i 0) ≡ false → before test (drop i v) ≡ suc (before test (drop j v))
+pub before-not : (test : ℕ → Bool) (v : List ℕ) (i j : ℕ) → j ≡ i + 1 → i < length v → test (getD v i 0) ≡ false
+    → before test (drop i v) ≡ suc (before test (drop j v))
 before-not test v i j n h e = rw (n, add-one, drop-cons v i 0, e)
 
 pub before-end : (test : ℕ → Bool) (v : List ℕ) (i : ℕ) → length v ≤ i → before test (drop i v) ≡ 0

@@ -7,7 +7,7 @@ use native.Mathlib.Omega.{arith}
 use lib.ListN.{length, getD, drop, length-drop}
 use lib.Dec.{leb, eqb}
 use borrow.Author.Tests.{leb-true, eqb-false}
-use Rattle.bson.specs.Answer.{Answer, gives, refuses, then}
+use Rattle.bson.specs.Answer.{Answer, gives, refuses}
 use Rattle.bson.specs.Bytes.{le32, natural}
 use Rattle.bson.specs.Cstring.{cstring}
 use Rattle.bson.specs.Framing.{valueSize}

@@ -1,6 +1,5 @@
 -- `raw::value_len` meets its contract: the row of the tag says which leaf answers. Assumes nothing.
 use mathlib.Core.Path.{ap, sym, _∙_}
-use Rattle.bson.specs.Tags.{sizedOf}
 use Rattle.bson.specs.Framing.{framed, valueSize}
 use Rattle.laws.proofs.AnswerLaws.{then-from}
 use Rattle.tags.specs.Said.{said}
