@@ -44,6 +44,7 @@ says (x ∷ xs) =
 
 unfoldable pub vectors : List Vector
 vectors =
+    -- P1 to P4: the empty document; 1, 2 and 3 at 0
     vector (0x05 ∷ 0 ∷ 0 ∷ 0 ∷ 0 ∷ []) ended [] [] (gives 0)
     ∷ vector (0x05 ∷ 0 ∷ 0 ∷ 0 ∷ []) (broken 1 0) [] [] (refuses 1 0)
     ∷ vector (0x06 ∷ 0 ∷ 0 ∷ 0 ∷ 0 ∷ []) (broken 2 0) [] [] (refuses 2 0)
@@ -57,9 +58,11 @@ vectors =
     -- P7: empty text
     ∷ vector (0x0C ∷ 0 ∷ 0 ∷ 0 ∷ 0x02 ∷ 0 ∷ 0x01 ∷ 0 ∷ 0 ∷ 0 ∷ 0 ∷ 0 ∷ [])
     (more (elem 4 0x02 0 5) ended) (gives (leaf (string (part 10 0))) ∷ []) [] (gives 1)
+    -- P8: 8 at 4
     ∷ vector (0x0B ∷ 0 ∷ 0 ∷ 0 ∷ 0x02 ∷ 0 ∷ 0 ∷ 0 ∷ 0 ∷ 0 ∷ 0 ∷ []) (broken 8 4) [] [] (refuses 8 4)
     -- P9: 6 at 4, before 7
     ∷ vector (0x08 ∷ 0 ∷ 0 ∷ 0 ∷ 0x14 ∷ 0xFF ∷ 0 ∷ 0 ∷ []) (broken 6 4) [] [] (refuses 6 4)
+    -- P10: 5 at 4
     ∷ vector (0x07 ∷ 0 ∷ 0 ∷ 0 ∷ 0x0B ∷ 0 ∷ 0 ∷ []) (broken 5 4) [] [] (refuses 5 4)
     -- P11: null is yielded, then 4 at 6
     ∷ vector (0x06 ∷ 0 ∷ 0 ∷ 0 ∷ 0x0A ∷ 0 ∷ [])
