@@ -1,4 +1,5 @@
--- Framing: how many bytes a value has, seen from the rest of the slice at its first byte (document 01, "Admission and one step").
+-- Framing: how many bytes a value has. It "looks at the rest of the slice from the value's first byte, the terminator included"
+-- (document 01, "Admission and one step").
 use Prim.Native.Nat.{ℕ, _+_, _-_}
 use mathlib.Core.List.{List}
 use lib.ListN.{length, getD, drop}
@@ -46,6 +47,7 @@ documentSize v = then (lengthField 5 5 v) λ n. zeroEnded n v
 unfoldable pub binarySize : List ℕ → Answer ℕ
 binarySize v = then (lengthField 4 0 v) λ n. fits (5 + n) v
 
+-- the same; "so a code with scope of n from 0 to 3 is framed"
 unfoldable pub scopeSize : List ℕ → Answer ℕ
 scopeSize v = then (lengthField 4 0 v) λ n. fits n v
 

@@ -8,12 +8,13 @@ use Rattle.bson.specs.Bytes.{bytes, same}
 use Rattle.bson.specs.Step.{terminator, admitted, Element, Iteration, ended, broken, more, iterate}
 use Rattle.bson.specs.Value.{Value, valueOf}
 
+-- "hands back a part of the document, never of the key: the value's framed bytes", which are the element's part `value`
 pub record Found : Type 0 where
   pub element : Element
   pub value : Value
 
 -- "goes by equal bytes, stops at the first match and reads it, returning the value's refusal if there is one;
--- damage behind it is not seen, damage before it is returned; no match is 16"
+-- damage behind it is not seen, damage before it is returned; no match is 16". Every yielded key is UTF-8, so another "matches nothing"
 abbrev pub first : List ℕ → List ℕ → Iteration → Answer Found
 first s key ended = refuses 16 (terminator s)
 first s key (broken n p) = refuses n p

@@ -64,7 +64,8 @@ scopeValue v p =
     (then (admitted (drop (4 + n) v)) λ _.
     gives (codeWithScope (part (p .offset + 8) (n - 5)) (trim (4 + n) 0 p)))))
 
--- the part p of s holds a value of this type
+-- the part p of s holds a value of this type. A text lies "without length and final zero", documents and arrays are "handed back whole",
+-- a timestamp is "increment, then seconds"
 unfoldable pub content : List ℕ → Part → ElementType → Answer Value
 content s p Boolean = asLeaf boolean (bool (bytes s p))
 content s p Int32 = asLeaf int32 (inFront 4 i32 (bytes s p))

@@ -2,6 +2,7 @@
 use Prim.Native.Nat.{ℕ, _+_, _-_, _≤_, _<_}
 use mathlib.Core.Path.{_≡_, refl, sym}
 use mathlib.Core.List.{List}
+use mathlib.Core.Bool.{true}
 use native.Mathlib.Omega.{arith}
 use lib.ListN.{length, getD, take, drop, length-drop}
 use lib.Dec.{leb, ltb, eqb}
@@ -23,6 +24,13 @@ cstring-below v k e =
     let (t, e1) = unless-gives (ltb (firstZero v) (length v)) 5 _ e in
     let (u, e2) = unless-gives (utf8 (take (firstZero v) v)) 6 _ e1 in
     omega (arith, ltb-true (firstZero v) (length v) t, gives-injective e2)
+
+pub cstring-utf8 : (v : List ℕ) (k : ℕ) → cstring v ≡ gives k → utf8 (take k v) ≡ true
+unfolding cstring
+cstring-utf8 v k e =
+    let (t, e1) = unless-gives (ltb (firstZero v) (length v)) 5 _ e in
+    let (u, e2) = unless-gives (utf8 (take (firstZero v) v)) 6 _ e1 in
+    rw (gives-injective e2) at u
 
 pub length-field-is : (present least : ℕ) (v : List ℕ) (n : ℕ) → lengthField present least v ≡ gives n
     → (present ≤ length v) × (least ≤ n) × (n < 2147483648) × (le32 v ≡ n)

@@ -8,13 +8,14 @@ use lib.ListN.{length, getD, drop, length-drop}
 use lib.Dec.{leb, eqb}
 use borrow.Author.Tests.{leb-true, eqb-false}
 use Rattle.bson.specs.Answer.{Answer, gives, refuses}
-use Rattle.bson.specs.Bytes.{le32, natural}
+use Rattle.bson.specs.Bytes.{le32, natural, bytes}
+use Rattle.bson.specs.Utf8.{utf8}
 use Rattle.bson.specs.Cstring.{cstring}
 use Rattle.bson.specs.Framing.{valueSize}
 use Rattle.bson.specs.Step.{terminator, admitted, Cursor, cursor, Element, past, element, Step, yield, end, step}
 use Rattle.bson.specs.Step.{Iteration, ended, broken, more, onward, iterateFor, iterate}
 use Rattle.laws.proofs.AnswerLaws.{gives-injective, unless-gives, then-gives, at-gives}
-use Rattle.laws.proofs.FramingLaws.{cstring-below, value-size-fits}
+use Rattle.laws.proofs.FramingLaws.{cstring-below, cstring-utf8, value-size-fits}
 
 pub admitted-says : (s : List ℕ) (n : ℕ) → admitted s ≡ gives n → (5 ≤ length s) × (n ≡ length s)
 unfolding admitted
@@ -85,6 +86,11 @@ module _ (s : List ℕ) (c : Cursor) (e : Element) where
       let l : 4 ≤ c .offset = leb-true 4 (c .offset) low in
       let h : c .offset < terminator s = omega (arith, leb-true (c .offset) (terminator s) high, eqb-false (c .offset) (terminator s) f) in
       element-yields (a ∙ ap gives (admitted-says s n a .1)) g l h (x5 ∙ ap gives i)
+
+-- so a key that is not UTF-8 equals no key of an element
+pub key-utf8 : (s : List ℕ) (c : Cursor) (e : Element) → Yields s c e → utf8 (bytes s (e .key)) ≡ true
+unfolding bytes
+key-utf8 s c e y = rw (y .key-at) (cstring-utf8 (drop (c .offset + 1) s) (e .key .size) (y .key-is))
 
 onward-same : (x : Answer Step) (f g : ℕ → Iteration) → ((e : Element) → x ≡ gives (yield e) → f (past e) ≡ g (past e)) → onward x f ≡ onward x g
 onward-same (gives (yield e)) f g h = ap (more e) (h e refl)
