@@ -16,10 +16,6 @@ use Rattle.raw.proofs.binary_len.Reads as binary-len-reads
 use Rattle.raw.proofs.binary_len.Kinds as binary-len-kinds
 use Rattle.raw.proofs.scope_len.Reads as scope-len-reads
 use Rattle.raw.proofs.scope_len.Kinds as scope-len-kinds
-use Rattle.raw.proofs.regex_len.Reads as regex-len-reads
-use Rattle.raw.proofs.regex_len.Kinds as regex-len-kinds
-use Rattle.raw.proofs.value_len.Reads as value-len-reads
-use Rattle.raw.proofs.value_len.Kinds as value-len-kinds
 use Rattle.raw.proofs.admit.Reads as admit-reads
 use Rattle.raw.proofs.admit.Kinds as admit-kinds
 
@@ -40,12 +36,6 @@ binary-len-determined κs a r₁ r₂ s₁ s₂ p q = said-injective r₁ r₂ (
 
 pub scope-len-determined : (κs : Lfts 1) (a : Dens κs scope-len-kinds.ps) → Determined (scope-len-reads.Post κs a)
 scope-len-determined κs a r₁ r₂ s₁ s₂ p q = said-injective r₁ r₂ (p ∙ sym q)
-
-pub regex-len-determined : (κs : Lfts 1) (a : Dens κs regex-len-kinds.ps) → Determined (regex-len-reads.Post κs a)
-regex-len-determined κs a r₁ r₂ s₁ s₂ p q = said-injective r₁ r₂ (p ∙ sym q)
-
-pub value-len-determined : (κs : Lfts 1) (a : Dens κs value-len-kinds.ps) → Determined (value-len-reads.Post κs a)
-value-len-determined κs a r₁ r₂ s₁ s₂ p q = said-injective r₁ r₂ (p ∙ sym q)
 
 pub admit-determined : (κs : Lfts 1) (a : Dens κs admit-kinds.ps) → Determined (admit-reads.Post κs a)
 admit-determined κs a r₁ r₂ s₁ s₂ p q = said-injective r₁ r₂ (p ∙ sym q)

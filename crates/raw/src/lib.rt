@@ -1,12 +1,12 @@
-// Framing, how many bytes the value at the front of a part has, and admission (src/raw.rs, raw/iter.rs and raw/document.rs of the Rust).
+// How many bytes a value with a length field, or of a fixed size, has at the front of a part; and admission
+// (src/raw.rs, src/raw/iter.rs and src/raw/document.rs of the Rust).
 ghost use mathlib.Core.Path.{_≡_};
 ghost use Prim.Native.Nat.{_≤_, _<_};
-ghost use Rattle.bson.specs.Framing.{lengthField, fits, zeroEnded, stringSize, pointerSize, documentSize, binarySize, scopeSize, regexSize, valueSize};
+ghost use Rattle.bson.specs.Framing.{lengthField, fits, zeroEnded, stringSize, pointerSize, documentSize, binarySize, scopeSize};
 ghost use Rattle.bson.specs.Step.{admitted};
 ghost use Rattle.cstr.specs.Said.{said};
 use cstr::Length;
 use num::Uint32;
-use tags::Kind;
 
 // The length field in front: 8 where so many bytes are not present, or it is negative or below its least.
 fn length_field(v: &[u8], present: usize, least: u32) -> Length
@@ -106,38 +106,6 @@ pub fn scope_len(v: &[u8]) -> Length
     match length_field(v, 4, 0) {
         Length::Refused(why) => Length::Refused(why),
         Length::Is(n) => fixed_len(v, n),
-    }
-}
-
-// A pattern and options, each with its zero: 5, 6.
-pub fn regex_len(v: &[u8]) -> Length
-    ensures { λ r. ⌜ said r ≡ regexSize (now (v .entry)) ⌝ }
-{
-    match cstr::read_cstring(v) {
-        Length::Refused(why) => Length::Refused(why),
-        Length::Is(p) => {
-            let o = p + 1;
-            match cstr::read_cstring(&v[o..]) {
-                Length::Refused(why) => Length::Refused(why),
-                Length::Is(n) => Length::Is(o + (n + 1)),
-            }
-        }
-    }
-}
-
-// The value of an element with this tag: 7 where the tag is in no row, else the refusals of its class.
-pub fn value_len(tag: u8, v: &[u8]) -> Length
-    ensures { λ r. ⌜ said r ≡ valueSize tag (now (v .entry)) ⌝ }
-{
-    match tags::kind_of(tag) {
-        Kind::Unknown => Length::Refused(7),
-        Kind::Fixed(n) => fixed_len(v, n),
-        Kind::String => read_len(v),
-        Kind::Pointer => pointer_len(v),
-        Kind::Document => document_len(v),
-        Kind::Binary => binary_len(v),
-        Kind::Regex => regex_len(v),
-        Kind::Scope => scope_len(v),
     }
 }
 

@@ -130,7 +130,7 @@ fn text(word: &[u8], v: &[u8], other: &[u8]) -> bool {
 }
 
 // The same of a leaf that frames one class.
-fn framing(word: &[u8], v: &[u8]) -> bool {
+fn one_class(word: &[u8], v: &[u8]) -> bool {
     if cstr::equal(word, b"string") {
         say_length(raw::read_len(v));
         return true;
@@ -148,7 +148,7 @@ fn framing(word: &[u8], v: &[u8]) -> bool {
         return true;
     }
     if cstr::equal(word, b"regex") {
-        say_length(raw::regex_len(v));
+        say_length(framing::regex_len(v));
         return true;
     }
     if cstr::equal(word, b"scope") {
@@ -166,7 +166,7 @@ fn document(word: &[u8], v: &[u8], rest: &[u8]) -> bool {
     }
     if cstr::equal(word, b"value") {
         if 0 < v.len() {
-            say_length(raw::value_len(v[0], rest));
+            say_length(framing::value_len(v[0], rest));
             return true;
         }
     }
@@ -183,7 +183,7 @@ fn answer(word: &[u8], first: &[u8], second: &[u8]) {
     if text(word, first, second) {
         return;
     }
-    if framing(word, first) {
+    if one_class(word, first) {
         return;
     }
     if document(word, first, second) {

@@ -1,11 +1,11 @@
--- `raw::value_len` meets its contract: the row of the tag says which leaf answers. Assumes nothing.
+-- `framing::value_len` meets its contract: the row of the tag says which leaf answers. Assumes nothing.
 use mathlib.Core.Path.{ap, sym, _∙_}
 use Rattle.bson.specs.Framing.{framed, valueSize}
 use Rattle.laws.proofs.AnswerLaws.{then-from}
 use Rattle.tags.specs.Said.{said}
 use borrow.Author.Needs.{needs}
-use Rattle.raw.proofs.value_len.Statement.{statement}
-use Rattle.raw.proofs.value_len.Tie as tie
+use Rattle.framing.proofs.value_len.Statement.{statement}
+use Rattle.framing.proofs.value_len.Tie as tie
 
 kind-of-requires : tie.Need-kind-of-requires
 kind-of-requires c κs = search needs

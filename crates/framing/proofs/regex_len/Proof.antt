@@ -1,4 +1,4 @@
--- `raw::regex_len` meets its contract: the pattern, then the options in the rest of the part. Assumes nothing.
+-- `framing::regex_len` meets its contract: the pattern, then the options in the rest of the part. Assumes nothing.
 use Prim.Native.Nat.{ℕ, _+_, _-_, _<_}
 use mathlib.Core.Path.{_≡_, ap, sym, _∙_}
 use mathlib.Core.List.{List}
@@ -11,8 +11,8 @@ use Rattle.laws.proofs.FramingLaws.{cstring-below}
 use Rattle.cstr.specs.Said.{said}
 use borrow.Author.Needs.{needs}
 use native.Mathlib.Omega.{arith}
-use Rattle.raw.proofs.regex_len.Statement.{statement}
-use Rattle.raw.proofs.regex_len.Tie as tie
+use Rattle.framing.proofs.regex_len.Statement.{statement}
+use Rattle.framing.proofs.regex_len.Tie as tie
 
 module _ (v : List ℕ) (p : ℕ) (pattern : cstring v ≡ gives p) where
   -- what the rest of the part answers for the options decides

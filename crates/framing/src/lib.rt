@@ -1,0 +1,38 @@
+// Framing by a tag: how many bytes the value at the front of a part has (src/raw/iter.rs of the Rust).
+ghost use mathlib.Core.Path.{_≡_};
+ghost use Rattle.bson.specs.Framing.{regexSize, valueSize};
+ghost use Rattle.cstr.specs.Said.{said};
+use cstr::Length;
+use tags::Kind;
+
+// A pattern and options, each with its zero: 5, 6.
+pub fn regex_len(v: &[u8]) -> Length
+    ensures { λ r. ⌜ said r ≡ regexSize (now (v .entry)) ⌝ }
+{
+    match cstr::read_cstring(v) {
+        Length::Refused(why) => Length::Refused(why),
+        Length::Is(p) => {
+            let o = p + 1;
+            match cstr::read_cstring(&v[o..]) {
+                Length::Refused(why) => Length::Refused(why),
+                Length::Is(n) => Length::Is(o + (n + 1)),
+            }
+        }
+    }
+}
+
+// The value of an element with this tag: 7 where the tag is in no row, else the refusals of its class.
+pub fn value_len(tag: u8, v: &[u8]) -> Length
+    ensures { λ r. ⌜ said r ≡ valueSize tag (now (v .entry)) ⌝ }
+{
+    match tags::kind_of(tag) {
+        Kind::Unknown => Length::Refused(7),
+        Kind::Fixed(n) => raw::fixed_len(v, n),
+        Kind::String => raw::read_len(v),
+        Kind::Pointer => raw::pointer_len(v),
+        Kind::Document => raw::document_len(v),
+        Kind::Binary => raw::binary_len(v),
+        Kind::Regex => regex_len(v),
+        Kind::Scope => raw::scope_len(v),
+    }
+}
