@@ -1,6 +1,6 @@
 -- What an answer that gives says of the tests before it. Assumes nothing.
 use Prim.Native.Nat.{ℕ}
-use mathlib.Core.Path.{_≡_, refl}
+use mathlib.Core.Path.{_≡_, refl, ap, sym, _∙_}
 use mathlib.Core.Bool.{Bool, true, false}
 use native.Mathlib.Omega.{arith}
 use Rattle.bson.specs.Answer.{Answer, gives, refuses, then, unless, at}
@@ -33,3 +33,7 @@ then-from x f e = rw e
 pub then-same : {A B : Type 0} (x : Answer A) (f g : A → Answer B) → ((a : A) → x ≡ gives a → f a ≡ g a) → then x f ≡ then x g
 then-same (gives a) f g h = h a refl
 then-same (refuses n p) f g h = refl
+
+-- what a call answers, by the case that it turned out to be
+pub answered : {E A : Type 0} (said : E → Answer A) {r x : E} {a : Answer A} → said r ≡ a → r ≡ x → a ≡ said x
+answered said e q = sym e ∙ ap said q

@@ -1,13 +1,13 @@
 -- Equal bytes, byte by byte. Assumes nothing.
 use Prim.Native.Nat.{ℕ, suc, _+_, _<_, _≤_}
-use mathlib.Core.Path.{_≡_, refl, ap}
+use mathlib.Core.Path.{_≡_, refl, ap, sym}
 use mathlib.Core.List.{List, [], _∷_}
-use mathlib.Core.Bool.{true, false}
+use mathlib.Core.Bool.{true, false, true≢false}
 use native.Mathlib.Numerals.{add-one}
 use lib.ListN.{length, getD, drop, drop-of-length-le}
 use lib.Seq.{drop-cons}
 use lib.Dec.{eqb}
-use borrow.Author.Tests.{eq-eqb, ne-eqb}
+use borrow.Author.Tests.{eq-eqb, ne-eqb, eqb-true}
 use Rattle.bson.specs.Bytes.{same}
 use Rattle.laws.proofs.Common.{split}
 
@@ -16,6 +16,15 @@ same-length [] [] h = absurd (h refl)
 same-length [] (y ∷ b) h = refl
 same-length (x ∷ a) [] h = refl
 same-length (x ∷ a) (y ∷ b) h = split (eqb x y) (λ p. rw p (same-length a b (λ e. h (ap suc e)))) (λ p. rw p)
+
+pub same-eq : (a b : List ℕ) → same a b ≡ true → a ≡ b
+same-eq [] [] e = refl
+same-eq [] (y ∷ b) e = absurd (true≢false (sym e))
+same-eq (x ∷ a) [] e = absurd (true≢false (sym e))
+same-eq (x ∷ a) (y ∷ b) e =
+    split (eqb x y)
+    (λ p. let i = same-eq a b (rw p at e) in let j = eqb-true x y p in cc)
+    (λ p. absurd (true≢false (sym (rw p at e))))
 
 module _ (a b : List ℕ) (i : ℕ) (p : i < length a) (q : i < length b) where
   pub same-step : getD a i 0 ≡ getD b i 0 → same (drop i a) (drop i b) ≡ same (drop (i + 1) a) (drop (i + 1) b)

@@ -2,35 +2,19 @@
 use Prim.Native.Nat.{ℕ, _+_, _-_, _≤_, _<_}
 use mathlib.Core.Path.{_≡_, refl, sym}
 use mathlib.Core.List.{List}
-use mathlib.Core.Bool.{true}
 use native.Mathlib.Omega.{arith}
 use lib.ListN.{length, getD, take, drop, length-drop}
 use lib.Dec.{leb, ltb, eqb}
 use borrow.Author.Tests.{leb-true, leb-false, ltb-true, eqb-true}
 use Rattle.bson.specs.Answer.{gives, refuses}
 use Rattle.bson.specs.Bytes.{le32, natural, Part, part}
-use Rattle.bson.specs.Utf8.{utf8}
-use Rattle.bson.specs.Cstring.{firstZero, cstring}
+use Rattle.bson.specs.Cstring.{cstring}
 use Rattle.bson.specs.Tags.{Sized, fixed, asString, asPointer, asDocument, asBinary, asRegex, asScope, sizedOf}
 use Rattle.bson.specs.Framing.{lengthField, fits, inFront, zeroEnded, stringSize, pointerSize, documentSize, binarySize, scopeSize}
 use Rattle.bson.specs.Framing.{patternOptions, regexSize, framed, valueSize}
 use Rattle.laws.proofs.Common.{split}
+use Rattle.laws.proofs.CstringLaws.{cstring-below}
 use Rattle.laws.proofs.AnswerLaws.{never, gives-injective, unless-gives, then-gives}
-
--- the zero is in the list too
-pub cstring-below : (v : List ℕ) (k : ℕ) → cstring v ≡ gives k → k < length v
-unfolding cstring
-cstring-below v k e =
-    let (t, e1) = unless-gives (ltb (firstZero v) (length v)) 5 _ e in
-    let (u, e2) = unless-gives (utf8 (take (firstZero v) v)) 6 _ e1 in
-    omega (arith, ltb-true (firstZero v) (length v) t, gives-injective e2)
-
-pub cstring-utf8 : (v : List ℕ) (k : ℕ) → cstring v ≡ gives k → utf8 (take k v) ≡ true
-unfolding cstring
-cstring-utf8 v k e =
-    let (t, e1) = unless-gives (ltb (firstZero v) (length v)) 5 _ e in
-    let (u, e2) = unless-gives (utf8 (take (firstZero v) v)) 6 _ e1 in
-    rw (gives-injective e2) at u
 
 pub length-field-is : (present least : ℕ) (v : List ℕ) (n : ℕ) → lengthField present least v ≡ gives n
     → (present ≤ length v) × (least ≤ n) × (n < 2147483648) × (le32 v ≡ n)

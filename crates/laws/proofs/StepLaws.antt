@@ -1,29 +1,33 @@
 -- What admission and a step that yields say, and that iteration goes on from step to step. Assumes nothing.
-use Prim.Native.Nat.{ℕ, zero, suc, _+_, _≤_, _<_}
+use Prim.Native.Nat.{ℕ, zero, suc, _+_, _-_, _≤_, _<_}
 use mathlib.Core.Path.{_≡_, refl, sym, ap, _∙_}
 use mathlib.Core.List.{List}
-use mathlib.Core.Bool.{Bool, true, false, cond, _&&_}
+use mathlib.Core.Bool.{Bool, true, false, cond, _&&_, true≢false}
 use native.Mathlib.Omega.{arith}
-use lib.ListN.{length, getD, drop, length-drop}
+use lib.ListN.{length, getD, take, drop, length-drop}
+use lib.Seq.{getD-drop}
 use lib.Dec.{leb, eqb}
-use borrow.Author.Tests.{leb-true, eqb-false}
+use borrow.Author.Tests.{leb-true, lt-ltb, eq-eqb, eqb-true, eqb-false}
 use Rattle.bson.specs.Answer.{Answer, gives, refuses}
-use Rattle.bson.specs.Bytes.{le32, natural, bytes}
+use Rattle.bson.specs.Bytes.{le32, natural, bytes, same}
 use Rattle.bson.specs.Utf8.{utf8}
-use Rattle.bson.specs.Cstring.{cstring}
+use Rattle.bson.specs.Cstring.{isZero, firstZero, cstring, validCstr}
 use Rattle.bson.specs.Framing.{valueSize}
 use Rattle.bson.specs.Step.{terminator, admitted, Cursor, cursor, Element, past, element, Step, yield, end, step}
 use Rattle.bson.specs.Step.{Iteration, ended, broken, more, onward, iterateFor, iterate}
-use Rattle.laws.proofs.AnswerLaws.{gives-injective, unless-gives, then-gives, at-gives}
-use Rattle.laws.proofs.FramingLaws.{cstring-below, cstring-utf8, value-size-fits}
+use Rattle.laws.proofs.AnswerLaws.{never, gives-injective, unless-gives, then-gives, at-gives}
+use Rattle.laws.proofs.FramingLaws.{value-size-fits}
+use Rattle.laws.proofs.BytesLaws.{same-eq}
+use Rattle.laws.proofs.Common.{split}
+use Rattle.laws.proofs.CstringLaws.{before-least, cstring-below, cstring-valid}
 
-pub admitted-says : (s : List ℕ) (n : ℕ) → admitted s ≡ gives n → (5 ≤ length s) × (n ≡ length s)
+pub admitted-says : (s : List ℕ) (n : ℕ) → admitted s ≡ gives n → (5 ≤ length s) × (n ≡ length s) × (getD s (terminator s) 0 ≡ 0)
 unfolding admitted
 admitted-says s n e =
     let (t, e1) = unless-gives (leb 5 (length s)) 1 _ e in
     let (u, e2) = unless-gives (natural (le32 s) && eqb (le32 s) (length s)) 2 _ e1 in
     let (w, e3) = unless-gives (eqb (getD s (terminator s) 0) 0) 3 _ e2 in
-    (leb-true 5 (length s) t, sym (gives-injective e3))
+    (leb-true 5 (length s) t, sym (gives-injective e3), eqb-true _ _ w)
 
 -- an element that a step at a cursor yields: where it lies, and that its key and its value are framed there
 pub record Yields (s : List ℕ) (c : Cursor) (e : Element) : Type 0 where
@@ -87,10 +91,32 @@ module _ (s : List ℕ) (c : Cursor) (e : Element) where
       let h : c .offset < terminator s = omega (arith, leb-true (c .offset) (terminator s) high, eqb-false (c .offset) (terminator s) f) in
       element-yields (a ∙ ap gives (admitted-says s n a .1)) g l h (x5 ∙ ap gives i)
 
--- so a key that is not UTF-8 equals no key of an element
-pub key-utf8 : (s : List ℕ) (c : Cursor) (e : Element) → Yields s c e → utf8 (bytes s (e .key)) ≡ true
+-- the key of a yielded element is a valid one, so another matches nothing
+pub key-valid : (s : List ℕ) (c : Cursor) (e : Element) → Yields s c e → validCstr (bytes s (e .key)) ≡ true
 unfolding bytes
-key-utf8 s c e y = rw (y .key-at) (cstring-utf8 (drop (c .offset + 1) s) (e .key .size) (y .key-is))
+key-valid s c e y = rw (y .key-at) (cstring-valid (drop (c .offset + 1) s) (e .key .size) (y .key-is))
+
+pub other-key-unmatched : (s : List ℕ) (c : Cursor) (e : Element) → Yields s c e
+    → (key : List ℕ) → validCstr key ≡ false → same key (bytes s (e .key)) ≡ false
+other-key-unmatched s c e y key h =
+    split (same key (bytes s (e .key)))
+    (λ t. absurd (true≢false (sym (key-valid s c e y) ∙ sym (ap validCstr (same-eq key (bytes s (e .key)) t)) ∙ h)))
+    (λ t. t)
+
+-- an admitted document ends in a zero, so a key before the terminator is refused by 6 alone
+pub key-refused : (s : List ℕ) (m offset n p : ℕ) → admitted s ≡ gives m → offset < terminator s
+    → cstring (drop (offset + 1) s) ≡ refuses n p → n ≡ 6
+unfolding cstring
+key-refused s m offset n p a h e =
+    let v = drop (offset + 1) s in
+    let i = terminator s - (offset + 1) in
+    let k : offset + 1 + i ≡ terminator s = omega arith in
+    let z : getD v i 0 ≡ 0 = getD-drop (offset + 1) s i 0 ∙ ap (λ (j : ℕ). getD s j 0) k ∙ admitted-says s m a .2 in
+    let f = before-least isZero v i (omega (arith, length-drop (offset + 1) s)) (eq-eqb _ _ z) in
+    let l : firstZero v < length v = omega (arith, length-drop (offset + 1) s) in
+    split (utf8 (take (firstZero v) v))
+    (λ t. never (sym (rw (lt-ltb _ _ l, t) at e)))
+    (λ t. let q : refuses 6 0 ≡ refuses n p = rw (lt-ltb _ _ l, t) at e in cc)
 
 onward-same : (x : Answer Step) (f g : ℕ → Iteration) → ((e : Element) → x ≡ gives (yield e) → f (past e) ≡ g (past e)) → onward x f ≡ onward x g
 onward-same (gives (yield e)) f g h = ap (more e) (h e refl)

@@ -7,8 +7,9 @@ use Rattle.bson.specs.Answer.{Answer, gives, refuses, then}
 use Rattle.bson.specs.Cstring.{cstring}
 use Rattle.bson.specs.Framing.{patternOptions, regexSize}
 use Rattle.laws.proofs.Common.{rest-part}
-use Rattle.laws.proofs.FramingLaws.{cstring-below}
+use Rattle.laws.proofs.CstringLaws.{cstring-below}
 use Rattle.cstr.specs.Said.{said}
+use Rattle.laws.proofs.AnswerLaws.{answered}
 use borrow.Author.Needs.{needs}
 use native.Mathlib.Omega.{arith}
 use Rattle.framing.proofs.regex_len.Statement.{statement}
@@ -16,14 +17,14 @@ use Rattle.framing.proofs.regex_len.Tie as tie
 
 module _ (v : List ℕ) (p : ℕ) (pattern : cstring v ≡ gives p) where
   -- what the rest of the part answers for the options decides
-  options : (x : Answer ℕ) → x ≡ cstring (take (length v - (p + 1)) (drop (p + 1) v)) → then x (λ n. gives (p + 1 + (n + 1))) ≡ regexSize v
+  options : (x : Answer ℕ) → cstring (take (length v - (p + 1)) (drop (p + 1) v)) ≡ x → then x (λ n. gives (p + 1 + (n + 1))) ≡ regexSize v
   unfolding regexSize patternOptions
-  options (gives n) e = rw (pattern, ← ap cstring (rest-part v (p + 1)), ← e)
-  options (refuses n k) e = rw (pattern, ← ap cstring (rest-part v (p + 1)), ← e)
+  options (gives n) e = rw (pattern, ← ap cstring (rest-part v (p + 1)), e)
+  options (refuses n k) e = rw (pattern, ← ap cstring (rest-part v (p + 1)), e)
 
-  options-below : (n : ℕ) → gives n ≡ cstring (take (length v - (p + 1)) (drop (p + 1) v)) → p + 1 + n < length v
+  options-below : (n : ℕ) → cstring (take (length v - (p + 1)) (drop (p + 1) v)) ≡ gives n → p + 1 + n < length v
   options-below n e =
-      omega (arith, cstring-below v p pattern, cstring-below _ n (sym (ap cstring (rest-part v (p + 1))) ∙ sym e), length-drop (p + 1) v)
+      omega (arith, cstring-below v p pattern, cstring-below _ n (sym (ap cstring (rest-part v (p + 1))) ∙ e), length-drop (p + 1) v)
 
 read-cstring-requires : tie.Need-read-cstring-requires
 read-cstring-requires c κs = search needs
@@ -36,17 +37,17 @@ enum-known-p c = search needs
 
 add-o : tie.Need-add-o
 add-o c =
-    let q = sym (c .before .before .before .read-cstring .ensures) ∙ ap said (c .before .p .given .1) in
+    let q = answered said (c .before .before .before .read-cstring .ensures) (c .before .p .given .1) in
     omega (arith, cstring-below _ _ q)
 
 sub-read-cstring : tie.Need-sub-read-cstring
 sub-read-cstring c =
-    let q = sym (c .before .before .before .read-cstring .ensures) ∙ ap said (c .before .p .given .1) in
+    let q = answered said (c .before .before .before .read-cstring .ensures) (c .before .p .given .1) in
     omega (arith, cstring-below _ _ q)
 
 part-read-cstring-start : tie.Need-part-read-cstring-start
 part-read-cstring-start c =
-    let q = sym (c .before .before .before .read-cstring .ensures) ∙ ap said (c .before .p .given .1) in
+    let q = answered said (c .before .before .before .read-cstring .ensures) (c .before .p .given .1) in
     omega (arith, cstring-below _ _ q)
 
 part-read-cstring-end : tie.Need-part-read-cstring-end
@@ -64,30 +65,30 @@ enum-known-n c = search needs
 add-t15 : tie.Need-add-t15
 add-t15 c =
     let b = c .before .before .before .before .before in
-    let q = sym (b .before .before .before .read-cstring .ensures) ∙ ap said (b .before .p .given .1) in
-    omega (arith, options-below _ _ q _ (sym (ap said (c .before .n .given .1)) ∙ c .before .before .before .read-cstring2 .ensures))
+    let q = answered said (b .before .before .before .read-cstring .ensures) (b .before .p .given .1) in
+    omega (arith, options-below _ _ q _ (answered said (c .before .before .before .read-cstring2 .ensures) (c .before .n .given .1)))
 
 add-t16 : tie.Need-add-t16
 add-t16 c =
     let b = c .before .before .before .before .before in
-    let q = sym (b .before .before .before .read-cstring .ensures) ∙ ap said (b .before .p .given .1) in
-    omega (arith, options-below _ _ q _ (sym (ap said (c .before .n .given .1)) ∙ c .before .before .before .read-cstring2 .ensures))
+    let q = answered said (b .before .before .before .read-cstring .ensures) (b .before .p .given .1) in
+    omega (arith, options-below _ _ q _ (answered said (c .before .before .before .read-cstring2 .ensures) (c .before .n .given .1)))
 
 returns : tie.Need-returns
 unfolding regexSize patternOptions
-returns c = rw (sym (c .before .before .before .read-cstring .ensures) ∙ ap said (c .before .why .given .1))
+returns c = rw (answered said (c .before .before .before .read-cstring .ensures) (c .before .why .given .1))
 
 returns-2 : tie.Need-returns-2
 returns-2 c =
     let b = c .before .before .before .before .before in
-    let q = sym (b .before .before .before .read-cstring .ensures) ∙ ap said (b .before .p .given .1) in
-    options _ _ q _ (sym (ap said (c .before .why2 .given .1)) ∙ c .before .before .before .read-cstring2 .ensures)
+    let q = answered said (b .before .before .before .read-cstring .ensures) (b .before .p .given .1) in
+    options _ _ q _ (answered said (c .before .before .before .read-cstring2 .ensures) (c .before .why2 .given .1))
 
 returns-3 : tie.Need-returns-3
 returns-3 c =
     let b = c .before .before .before .before .before in
-    let q = sym (b .before .before .before .read-cstring .ensures) ∙ ap said (b .before .p .given .1) in
-    options _ _ q _ (sym (ap said (c .before .n .given .1)) ∙ c .before .before .before .read-cstring2 .ensures)
+    let q = answered said (b .before .before .before .read-cstring .ensures) (b .before .p .given .1) in
+    options _ _ q _ (answered said (c .before .before .before .read-cstring2 .ensures) (c .before .n .given .1))
 
 pub regex-len-spec : {M : Type 1} → statement M
 regex-len-spec =

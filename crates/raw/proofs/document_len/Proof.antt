@@ -1,8 +1,8 @@
 -- `raw::document_len` meets its contract: what the length field gives decides. Assumes nothing.
-use mathlib.Core.Path.{ap, sym, _∙_}
 use Rattle.bson.specs.Framing.{documentSize}
 use Rattle.cstr.specs.Said.{said}
 use Rattle.laws.proofs.FramingLaws.{length-field-is}
+use Rattle.laws.proofs.AnswerLaws.{answered}
 use borrow.Author.Needs.{needs}
 use native.Mathlib.Omega.{arith}
 use Rattle.raw.proofs.document_len.Statement.{statement}
@@ -18,15 +18,15 @@ enum-known-n : tie.Need-enum-known-n
 enum-known-n c = search needs
 
 zero-ended-len-requires : tie.Need-zero-ended-len-requires
-zero-ended-len-requires c κs = omega (arith, length-field-is _ _ _ _ (sym (c .before .before .before .length-field .ensures) ∙ ap said (c .before .n .given .1)))
+zero-ended-len-requires c κs = omega (arith, length-field-is _ _ _ _ (answered said (c .before .before .before .length-field .ensures) (c .before .n .given .1)))
 
 returns : tie.Need-returns
 unfolding documentSize
-returns c = rw (sym (c .before .before .before .length-field .ensures) ∙ ap said (c .before .why .given .1))
+returns c = rw (answered said (c .before .before .before .length-field .ensures) (c .before .why .given .1))
 
 returns-2 : tie.Need-returns-2
 unfolding documentSize
-returns-2 c = rw (sym (c .before .before .before .before .length-field .ensures) ∙ ap said (c .before .before .n .given .1)) (c .zero-ended-len .ensures)
+returns-2 c = rw (answered said (c .before .before .before .before .length-field .ensures) (c .before .before .n .given .1)) (c .zero-ended-len .ensures)
 
 pub document-len-spec : {M : Type 1} → statement M
 document-len-spec =

@@ -1,8 +1,8 @@
 -- `raw::pointer_len` meets its contract: what the length field gives decides. Assumes nothing.
-use mathlib.Core.Path.{ap, sym, _∙_}
 use Rattle.bson.specs.Framing.{pointerSize}
 use Rattle.cstr.specs.Said.{said}
 use Rattle.laws.proofs.FramingLaws.{string-is}
+use Rattle.laws.proofs.AnswerLaws.{answered}
 use borrow.Author.Needs.{needs}
 use native.Mathlib.Omega.{arith}
 use Rattle.raw.proofs.pointer_len.Statement.{statement}
@@ -18,18 +18,18 @@ enum-known-n : tie.Need-enum-known-n
 enum-known-n c = search needs
 
 add-fixed-len : tie.Need-add-fixed-len
-add-fixed-len c = omega (arith, string-is _ _ (sym (c .before .before .before .read-len .ensures) ∙ ap said (c .before .n .given .1)))
+add-fixed-len c = omega (arith, string-is _ _ (answered said (c .before .before .before .read-len .ensures) (c .before .n .given .1)))
 
 fixed-len-requires : tie.Need-fixed-len-requires
 fixed-len-requires c κs = search needs
 
 returns : tie.Need-returns
 unfolding pointerSize
-returns c = rw (sym (c .before .before .before .read-len .ensures) ∙ ap said (c .before .why .given .1))
+returns c = rw (answered said (c .before .before .before .read-len .ensures) (c .before .why .given .1))
 
 returns-2 : tie.Need-returns-2
 unfolding pointerSize
-returns-2 c = rw (sym (c .before .before .before .before .read-len .ensures) ∙ ap said (c .before .before .n .given .1)) (c .fixed-len .ensures)
+returns-2 c = rw (answered said (c .before .before .before .before .read-len .ensures) (c .before .before .n .given .1)) (c .fixed-len .ensures)
 
 pub pointer-len-spec : {M : Type 1} → statement M
 pointer-len-spec =

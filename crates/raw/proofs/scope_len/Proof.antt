@@ -1,7 +1,7 @@
 -- `raw::scope_len` meets its contract: what the length field gives decides. Assumes nothing.
-use mathlib.Core.Path.{ap, sym, _∙_}
 use Rattle.bson.specs.Framing.{scopeSize}
 use Rattle.cstr.specs.Said.{said}
+use Rattle.laws.proofs.AnswerLaws.{answered}
 use borrow.Author.Needs.{needs}
 use Rattle.raw.proofs.scope_len.Statement.{statement}
 use Rattle.raw.proofs.scope_len.Tie as tie
@@ -20,11 +20,11 @@ fixed-len-requires c κs = search needs
 
 returns : tie.Need-returns
 unfolding scopeSize
-returns c = rw (sym (c .before .before .before .length-field .ensures) ∙ ap said (c .before .why .given .1))
+returns c = rw (answered said (c .before .before .before .length-field .ensures) (c .before .why .given .1))
 
 returns-2 : tie.Need-returns-2
 unfolding scopeSize
-returns-2 c = rw (sym (c .before .before .before .before .length-field .ensures) ∙ ap said (c .before .before .n .given .1)) (c .fixed-len .ensures)
+returns-2 c = rw (answered said (c .before .before .before .before .length-field .ensures) (c .before .before .n .given .1)) (c .fixed-len .ensures)
 
 pub scope-len-spec : {M : Type 1} → statement M
 scope-len-spec =
