@@ -9,3 +9,4 @@ pub mod Value
 pub mod Lookup
 pub mod Check
 pub mod Vectors
+pub mod Decided

@@ -14,7 +14,8 @@ pub record Found : Type 0 where
   pub value : Value
 
 -- "goes by equal bytes, stops at the first match and reads it, returning the value's refusal if there is one;
--- damage behind it is not seen, damage before it is returned; no match is 16". Every yielded key is UTF-8, so another "matches nothing"
+-- damage behind it is not seen, damage before it is returned; no match is 16". A key that is not UTF-8 "matches nothing"
+-- (`other-key-unmatched`)
 abbrev pub first : List ℕ → List ℕ → Iteration → Answer Found
 first s key ended = refuses 16 (terminator s)
 first s key (broken n p) = refuses n p

@@ -1,0 +1,17 @@
+-- The definition says what docs/DECISIONS.md settles. Assumes nothing.
+use mathlib.Core.Path.{_≡_, refl}
+use Rattle.bson.specs.Bytes.{le32, le64, signed, i32, i64, bytes}
+use Rattle.bson.specs.Utf8.{rows, utf8}
+use Rattle.bson.specs.Cstring.{cstring}
+use Rattle.bson.specs.Tags.{tags, rowOf}
+use Rattle.bson.specs.Framing.{lengthField, fits, zeroEnded, stringSize, pointerSize, documentSize, binarySize, scopeSize}
+use Rattle.bson.specs.Framing.{patternOptions, regexSize, framed, valueSize}
+use Rattle.bson.specs.Step.{admitted, element, step, iterateFor, iterate}
+use Rattle.bson.specs.Value.{bool, text, binaryValue, scopeValue, content, valueOf, readAt}
+use Rattle.bson.specs.Lookup.{get, getWith, isEmpty}
+use Rattle.bson.specs.Check.{goodArrayKey, visit, walkFor, walk, check}
+use Rattle.bson.specs.Decided.{points, saidOf, settledOf}
+
+pub decided-hold : saidOf points ≡ settledOf points
+unfolding le32 le64 signed i32 i64 bytes rows utf8 cstring tags rowOf lengthField fits zeroEnded stringSize pointerSize documentSize binarySize scopeSize patternOptions regexSize framed valueSize admitted element step iterateFor iterate bool text binaryValue scopeValue content valueOf readAt get getWith isEmpty goodArrayKey visit walkFor walk check points
+decided-hold = refl

@@ -1,0 +1,84 @@
+-- Points that document 01 leaves open, as docs/DECISIONS.md settles them, and a zero byte met as a tag, each by bytes that show it.
+use Prim.Native.Nat.{ℕ}
+use mathlib.Core.List.{List, [], _∷_}
+use mathlib.Core.Bool.{true, false, cond}
+use Rattle.bson.specs.Answer.{Answer, gives, refuses, then}
+use Rattle.bson.specs.Step.{cursor, step}
+use Rattle.bson.specs.Value.{readAt}
+use Rattle.bson.specs.Lookup.{get, getWith, isEmpty}
+use Rattle.bson.specs.Check.{check}
+
+-- an answer of which only the refusal matters
+abbrev pub given : {A : Type 0} → Answer A → Answer ℕ
+given a = then a λ _. gives 0
+
+abbrev pub empty : List ℕ
+empty = 0x05 ∷ 0 ∷ 0 ∷ 0 ∷ 0 ∷ []
+
+-- key `a` twice: false, then true
+abbrev pub twoKeys : List ℕ
+twoKeys = 0x0D ∷ 0 ∷ 0 ∷ 0 ∷ 0x08 ∷ 0x61 ∷ 0 ∷ 0 ∷ 0x08 ∷ 0x61 ∷ 0 ∷ 0x01 ∷ 0 ∷ []
+
+-- an array of one null, its key two bytes
+abbrev pub arrayKeyed : ℕ → ℕ → List ℕ
+arrayKeyed a b = 0x10 ∷ 0 ∷ 0 ∷ 0 ∷ 0x04 ∷ 0 ∷ 0x09 ∷ 0 ∷ 0 ∷ 0 ∷ 0x0A ∷ a ∷ b ∷ 0 ∷ 0 ∷ 0 ∷ []
+
+-- code with scope of empty code, its scope five bytes of which the first is given
+abbrev pub scopeOf : ℕ → List ℕ
+scopeOf n = 0x15 ∷ 0 ∷ 0 ∷ 0 ∷ 0x0F ∷ 0 ∷ 0x0E ∷ 0 ∷ 0 ∷ 0 ∷ 0x01 ∷ 0 ∷ 0 ∷ 0 ∷ 0 ∷ n ∷ 0 ∷ 0 ∷ 0 ∷ 0 ∷ 0 ∷ []
+
+-- what the definition says, and what was settled
+unfoldable pub points : List (Answer ℕ × Answer ℕ)
+points =
+    -- values inside a scope are counted
+    (check false (0x17 ∷ 0 ∷ 0 ∷ 0 ∷ 0x0F ∷ 0 ∷ 0x10 ∷ 0 ∷ 0 ∷ 0 ∷ 0x01 ∷ 0 ∷ 0 ∷ 0 ∷ 0 ∷ 0x07 ∷ 0 ∷ 0 ∷ 0 ∷ 0x0A ∷ 0 ∷ 0 ∷ 0 ∷ []), gives 2)
+    -- bad code text and bad scope: the order of the text
+    ∷ (check false (0x15 ∷ 0 ∷ 0 ∷ 0 ∷ 0x0F ∷ 0 ∷ 0x0E ∷ 0 ∷ 0 ∷ 0 ∷ 0x02 ∷ 0 ∷ 0 ∷ 0 ∷ 0xFF ∷ 0 ∷ 0 ∷ 0 ∷ 0 ∷ 0 ∷ 0 ∷ []), refuses 6 4)
+    -- a scope's own 2 stands at the tag byte
+    ∷ (check false (scopeOf 5), gives 1)
+    ∷ (check false (scopeOf 6), refuses 2 4)
+    -- places in nested documents count in the outermost slice
+    ∷ (check false (0x0E ∷ 0 ∷ 0 ∷ 0 ∷ 0x03 ∷ 0 ∷ 0x07 ∷ 0 ∷ 0 ∷ 0 ∷ 0x14 ∷ 0 ∷ 0 ∷ 0 ∷ []), refuses 7 10)
+    -- a zero byte met as a tag is no end: it is in no row of the table
+    ∷ (check false (0x07 ∷ 0 ∷ 0 ∷ 0 ∷ 0 ∷ 0 ∷ 0 ∷ []), refuses 7 4)
+    -- admission comes before the ended mark
+    ∷ (given (step (0x05 ∷ 0 ∷ 0 ∷ 0 ∷ []) (cursor 4 true)), refuses 1 0)
+    ∷ (given (step empty (cursor 99 true)), gives 0)
+    -- 4 at that very offset, however large
+    ∷ (given (step empty (cursor 3 false)), refuses 4 3)
+    ∷ (given (step empty (cursor 5 false)), refuses 4 5)
+    ∷ (given (readAt empty 0xFFFF_FFFF_FFFF_FFFF), refuses 4 0xFFFF_FFFF_FFFF_FFFF)
+    -- reading at the terminator
+    ∷ (given (readAt empty 4), refuses 16 4)
+    -- a key with a zero byte, or not UTF-8, matches nothing
+    ∷ (given (get twoKeys (0x61 ∷ 0 ∷ [])), refuses 16 12)
+    ∷ (given (get twoKeys (0xFF ∷ [])), refuses 16 12)
+    -- a typed lookup by the element's tag, another, and one outside the table; the place of 17
+    ∷ (given (getWith twoKeys (0x61 ∷ []) 0x08), gives 0)
+    ∷ (given (getWith twoKeys (0x61 ∷ []) 0x10), refuses 17 4)
+    ∷ (given (getWith twoKeys (0x61 ∷ []) 0x14), refuses 17 4)
+    ∷ (given (getWith twoKeys (0x62 ∷ []) 0x14), refuses 16 12)
+    -- a strict array key: ASCII digits, one or more
+    ∷ (check true (arrayKeyed 0x30 0x39), gives 2)
+    ∷ (check true (arrayKeyed 0x2F 0x30), refuses 19 10)
+    ∷ (check true (arrayKeyed 0x30 0x3A), refuses 19 10)
+    ∷ (check true (0x0E ∷ 0 ∷ 0 ∷ 0 ∷ 0x04 ∷ 0 ∷ 0x07 ∷ 0 ∷ 0 ∷ 0 ∷ 0x0A ∷ 0 ∷ 0 ∷ 0 ∷ []), refuses 19 10)
+    ∷ (check false (arrayKeyed 0x30 0x3A), gives 2)
+    -- `is_empty`
+    ∷ (then (isEmpty empty) (λ b. gives (cond b 1 0)), gives 1)
+    ∷ (then (isEmpty twoKeys) (λ b. gives (cond b 1 0)), gives 0)
+    ∷ (given (isEmpty (0x06 ∷ 0 ∷ 0 ∷ 0 ∷ 0 ∷ [])), refuses 2 0)
+    -- a negative length of an embedded document
+    ∷ (check false (0x0B ∷ 0 ∷ 0 ∷ 0 ∷ 0x03 ∷ 0 ∷ 0xFF ∷ 0xFF ∷ 0xFF ∷ 0xFF ∷ 0 ∷ []), refuses 8 4)
+    -- data of subtype 2: one byte behind its length, and under four bytes
+    ∷ (check false (0x11 ∷ 0 ∷ 0 ∷ 0 ∷ 0x05 ∷ 0 ∷ 0x05 ∷ 0 ∷ 0 ∷ 0 ∷ 0x02 ∷ 0x01 ∷ 0 ∷ 0 ∷ 0 ∷ 0xAA ∷ 0 ∷ []), gives 1)
+    ∷ (check false (0x0F ∷ 0 ∷ 0 ∷ 0 ∷ 0x05 ∷ 0 ∷ 0x03 ∷ 0 ∷ 0 ∷ 0 ∷ 0x02 ∷ 0 ∷ 0 ∷ 0 ∷ 0 ∷ []), refuses 12 4)
+    ∷ []
+
+abbrev pub saidOf : List (Answer ℕ × Answer ℕ) → List (Answer ℕ)
+saidOf [] = []
+saidOf (p ∷ ps) = p .0 ∷ saidOf ps
+
+abbrev pub settledOf : List (Answer ℕ × Answer ℕ) → List (Answer ℕ)
+settledOf [] = []
+settledOf (p ∷ ps) = p .1 ∷ settledOf ps
