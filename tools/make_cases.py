@@ -187,23 +187,23 @@ def regex(v):
     return gives(first + int(o.split()[1]) + 1) if o.startswith("gives") else o
 
 
-CLASSES = {"string": string, "pointer": pointer, "document": document, "binary": binary, "scope": scope}
+COUNTED = {0x02: string, 0x0C: pointer, 0x03: document, 0x05: binary, 0x0F: scope}
 FIXED = {0x08: 1, 0x10: 4, 0x01: 8, 0x12: 8, 0x09: 8, 0x11: 8, 0x07: 12, 0x13: 16, 0x0A: 0, 0x06: 0, 0xFF: 0, 0x7F: 0}
 FRAMED = {0x02: string, 0x0D: string, 0x0E: string, 0x0C: pointer, 0x03: document, 0x04: document, 0x05: binary, 0x0B: regex, 0x0F: scope}
 
 
 def length_cases():
-    for name, frame in CLASSES.items():
+    for tag, frame in COUNTED.items():
         for body in range(0, 24):
-            ask(name, frame(b"\xff" * body), b"\xff" * body)
+            ask("value", frame(b"\xff" * body), [tag], b"\xff" * body)
         for body in (0, 1, 2, 5, 10, 12, 13, 17):
             for end in (0, 1):
                 rest = b"\0" * max(body - 1, 0) + (bytes([end]) if body else b"")
                 for n in sorted({-(2**31), -1, 0, 1, 3, 4, 5, 6, body - 1, body, body + 1, body + 3, body + 4, body + 5, 2**31 - 5, 2**31 - 1}):
                     v = le(n) + rest
-                    ask(name, frame(v), v)
+                    ask("value", frame(v), [tag], v)
     for v in (b"", b"\0", b"\0\0", b"a\0", b"a\0i", b"a\0i\0", b"a\0i\0x", b"\0i\0", b"a\0\xff\0", b"\xff\0i\0", b"\xff\0\xff", b"a", b"\xc3\xa9\0\xc3\xa9\0"):
-        ask("regex", regex(v), v)
+        ask("value", regex(v), [0x0B], v)
 
 
 def tag_cases():

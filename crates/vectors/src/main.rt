@@ -129,35 +129,6 @@ fn text(word: &[u8], v: &[u8], other: &[u8]) -> bool {
     false
 }
 
-// The same of a leaf that frames one class.
-fn one_class(word: &[u8], v: &[u8]) -> bool {
-    if cstr::equal(word, b"string") {
-        say_length(raw::read_len(v));
-        return true;
-    }
-    if cstr::equal(word, b"pointer") {
-        say_length(raw::pointer_len(v));
-        return true;
-    }
-    if cstr::equal(word, b"document") {
-        say_length(raw::document_len(v));
-        return true;
-    }
-    if cstr::equal(word, b"binary") {
-        say_length(raw::binary_len(v));
-        return true;
-    }
-    if cstr::equal(word, b"regex") {
-        say_length(framing::regex_len(v));
-        return true;
-    }
-    if cstr::equal(word, b"scope") {
-        say_length(raw::scope_len(v));
-        return true;
-    }
-    false
-}
-
 // The same of admission and of framing by a tag, the first byte of the first bytes.
 fn document(word: &[u8], v: &[u8], rest: &[u8]) -> bool {
     if cstr::equal(word, b"admit") {
@@ -181,9 +152,6 @@ fn answer(word: &[u8], first: &[u8], second: &[u8]) {
         return;
     }
     if text(word, first, second) {
-        return;
-    }
-    if one_class(word, first) {
         return;
     }
     if document(word, first, second) {
