@@ -1,11 +1,11 @@
--- `vectors::unhex` meets its contract: each byte has two digits and a place. Assumes nothing.
+-- `vectors::text::unhex` meets its contract: each byte has two digits and a place. Assumes nothing.
 use Prim.Native.Nat.{_+_, _-_, _≤_}
 use mathlib.Core.Path.{_≡_}
 use lib.ListN.{length}
 use borrow.Author.Needs.{needs}
 use Rattle.io.proofs.Counting.{counts}
-use Rattle.vectors.proofs.unhex.Statement.{statement}
-use Rattle.vectors.proofs.unhex.Tie as tie
+use Rattle.vectors.proofs.text.unhex.Statement.{statement}
+use Rattle.vectors.proofs.text.unhex.Tie as tie
 
 abbrev Inv-loop : tie.InvT-loop
 Inv-loop digits out₀ n₀ out n = (n + n ≤ length digits) × (n ≤ length out₀) × (length out ≡ length out₀)

@@ -1,15 +1,15 @@
--- `vectors::replay` meets its contract: each line ends behind its start. Assumes nothing.
-use Prim.Native.Nat.{_-_}
+-- `vectors::replay_lines` meets its contract: each line ends behind its start. Assumes nothing.
+use Prim.Native.Nat.{_-_, _≤_}
 use lib.ListN.{length}
 use borrow.Author.Needs.{needs}
-use Rattle.vectors.proofs.replay.Statement.{statement}
-use Rattle.vectors.proofs.replay.Tie as tie
+use Rattle.vectors.proofs.replay_lines.Statement.{statement}
+use Rattle.vectors.proofs.replay_lines.Tie as tie
 
 abbrev Inv-loop : tie.InvT-loop
-Inv-loop list i₀ i = Unit {0}
+Inv-loop list ended progress₀ rest₀ progress rest = rest ≤ length list
 
 abbrev μ-loop : tie.MeasureT-loop
-μ-loop list i₀ i = length list - i
+μ-loop list ended progress₀ rest₀ progress rest = length list - rest
 
 loop-holds : tie.Need-loop-holds Inv-loop μ-loop
 loop-holds c = search needs
@@ -29,8 +29,8 @@ part-replay-line-end c = search needs
 replay-line-requires : tie.Need-replay-line-requires Inv-loop μ-loop
 replay-line-requires c κs = search needs
 
-add-i : tie.Need-add-i Inv-loop μ-loop
-add-i c = search needs
+behind-requires : tie.Need-behind-requires Inv-loop μ-loop
+behind-requires c κs = search needs
 
 loop-less : tie.Need-loop-less Inv-loop μ-loop
 loop-less c = search needs
@@ -41,8 +41,11 @@ loop-again c = search needs
 returns : tie.Need-returns Inv-loop μ-loop
 returns c = search needs
 
-pub replay-spec : {M : Type 1} → statement M
-replay-spec =
+returns-2 : tie.Need-returns-2 Inv-loop μ-loop
+returns-2 c = search needs
+
+pub replay-lines-spec : {M : Type 1} → statement M
+replay-lines-spec =
     tie.close
     (tie.spec
     Inv-loop
@@ -53,7 +56,8 @@ replay-spec =
     part-replay-line-start
     part-replay-line-end
     replay-line-requires
-    add-i
+    behind-requires
     loop-less
     loop-again
-    returns)
+    returns
+    returns-2)

@@ -1,4 +1,4 @@
--- `vectors::distance` meets its contract: of a number below 0, -1 less the number is not below 0 and leaves room for 1. Assumes nothing.
+-- `vectors::text::distance` meets its contract: of a number below 0, -1 less the number is not below 0 and leaves room for 1. Assumes nothing.
 use Prim.Native.Nat.{ℕ, suc, _<_}
 use mathlib.Core.Path.{_≡_, ap}
 use mathlib.Core.Bool.{true, false}
@@ -11,8 +11,8 @@ use lib.Signed.{ltZ, nonNeg}
 use mir.Syntax.{w64}
 use mir.Val.{Fits, SFits, toZ, ofZ}
 use mir.ValLaws.{toZ-pos, toZ-ofZ}
-use Rattle.vectors.proofs.distance.Statement.{statement}
-use Rattle.vectors.proofs.distance.Tie as tie
+use Rattle.vectors.proofs.text.distance.Statement.{statement}
+use Rattle.vectors.proofs.text.distance.Tie as tie
 
 record Turned (z : ℤ) : Type 0 where
   less : ℕ
