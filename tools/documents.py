@@ -1,0 +1,468 @@
+"""The documents of the list: bytes for every class, boundary and kind of damage, with the keys that are looked up in them.
+
+Each group is a generator of (document, asks); an ask is ("get", key) or ("typed", key, tag). Nothing here says an answer, but for
+document 01's "Bytes to try", whose results stand beside them as the paper has them.
+"""
+INT32, NULL, DOCUMENT, ARRAY, SCOPE = 0x10, 0x0A, 0x03, 0x04, 0x0F
+GETTERS = (0x01, 0x02, 0x03, 0x04, 0x05, 0x07, 0x08, 0x09, 0x0B, 0x10, 0x11, 0x12)  # the tags of the Rust's twelve typed getters
+
+# ---- how documents are made
+
+
+def le(n, size=4):
+    return (n % 2 ** (8 * size)).to_bytes(size, "little")
+
+
+def raw(key):
+    return key.encode() if isinstance(key, str) else bytes(key)
+
+
+def element(tag, key, value=b""):
+    return bytes([tag]) + raw(key) + b"\0" + value
+
+
+def doc(*elements):
+    body = b"".join(elements)
+    return le(len(body) + 5) + body + b"\0"
+
+
+def text(t):
+    return le(len(raw(t)) + 1) + raw(t) + b"\0"
+
+
+def with_scope(code, scope):
+    inner = text(code) + scope
+    return le(len(inner) + 4) + inner
+
+
+def resized(s):
+    """The same bytes with the length that they have."""
+    return le(len(s)) + s[4:]
+
+
+def gets(*keys):
+    return [("get", raw(key)) for key in keys]
+
+
+def typed(key, *tags):
+    return [("typed", raw(key), tag) for tag in tags]
+
+
+BATTERY = element(INT32, "battery", le(87))
+ID = bytes.fromhex("0123456789abcdef00ff7f80")
+SAMPLES = {
+    0x01: bytes.fromhex("182d4454fb210940"),
+    0x02: text("Grüße"),
+    0x03: doc(element(0x08, "b", b"\1")),
+    0x04: doc(element(INT32, "0", le(7)), element(NULL, "1")),
+    0x05: le(3) + b"\x80xyz",
+    0x06: b"",
+    0x07: ID,
+    0x08: b"\1",
+    0x09: le(-1, 8),
+    0x0A: b"",
+    0x0B: b"^a.*$\0im\0",
+    0x0C: text("db.c") + ID,
+    0x0D: text("f()"),
+    0x0E: text("s"),
+    0x0F: with_scope("x", doc(element(0x08, "y", b"\0"))),
+    0x10: le(-2),
+    0x11: le(3) + le(1794715680),
+    0x12: le(2**40, 8),
+    0x13: bytes(range(16)),
+    0x7F: b"",
+    0xFF: b"",
+}
+OLD_BINARY = le(7) + b"\2" + le(3) + b"xyz"
+# where the length fields of a sample lie
+FIELDS = {tag: (0,) for tag in (0x02, 0x03, 0x04, 0x05, 0x0C, 0x0D, 0x0E)} | {0x0F: (0, 4, 10)}
+
+
+def framed(tag, value):
+    """A value between two others; the second is the one that the panel reads."""
+    return doc(element(NULL, "z"), element(tag, "a", value), BATTERY)
+
+
+VALUE_AT = 4 + 3 + 3  # where the value of a framed sample begins
+SAMPLED = [(tag, SAMPLES[tag]) for tag in sorted(SAMPLES)] + [(0x05, OLD_BINARY)]
+
+
+# ---- document 01's "Bytes to try", with its results of the whole check
+
+TRY = """05 00 00 00 00 = 0
+05 00 00 00 = 1 at 0
+06 00 00 00 00 = 2 at 0
+05 00 00 00 01 = 3 at 0
+0A 00 00 00 10 00 07 00 00 00 = 4 at 10
+0A 00 00 00 0F 00 03 00 00 00 = 12 at 4
+0C 00 00 00 02 00 01 00 00 00 00 00 = 1
+0B 00 00 00 02 00 00 00 00 00 00 = 8 at 4
+08 00 00 00 14 FF 00 00 = 6 at 4
+07 00 00 00 0B 00 00 = 5 at 4
+06 00 00 00 0A 00 = 4 at 6
+0D 00 00 00 08 61 00 00 08 61 00 01 00 = 2
+07 00 00 00 14 00 00 = 7 at 4
+0A 00 00 00 12 00 07 00 00 00 = 9 at 4
+0C 00 00 00 02 00 01 00 00 00 61 00 = 10 at 4
+08 00 00 00 08 00 02 00 = 11 at 4
+15 00 00 00 0F 00 0E 00 00 00 01 00 00 00 00 05 00 00 00 00 00 = 1"""
+
+
+def nested(k, tag=DOCUMENT, key="", innermost=doc()):
+    """A document with k more inside it, each the only value of the one around it."""
+    d = innermost
+    for _ in range(k):
+        d = doc(element(tag, key, with_scope("", d) if tag == SCOPE else d))
+    return d
+
+
+def bytes_to_try():
+    """Document 01's table: each document, and the result of the whole check."""
+    for row in TRY.split("\n"):
+        hexes, result = row.split(" = ")
+        yield bytes.fromhex(hexes), result
+    yield nested(201), "201"
+    yield nested(202), "13 at 1210"
+
+
+def tried():
+    for d, _ in bytes_to_try():
+        yield d, gets("", "a")
+
+
+# ---- good documents
+
+
+def good_values():
+    numbers = (0, 1, -1, 2**31 - 1, -(2**31), 2**63 - 1, -(2**63), 0x0807060504030201)
+    for tag, value in SAMPLED:
+        for key in ("", "a", "Grüße"):
+            yield doc(element(tag, key, value)), gets(key)
+        yield framed(tag, value), gets("a", "battery") + typed("a", *GETTERS)
+    for tag, size in ((0x10, 4), (0x12, 8), (0x09, 8), (0x11, 8), (0x01, 8)):
+        for n in numbers:
+            yield doc(element(tag, "a", le(n, size))), typed("a", tag)
+    for bits in (0x7FF0 << 48, 0xFFF0 << 48, 0x7FF8 << 48, 0x7FF0_0000_0000_0001, 2**64 - 1, 0x8000 << 48, 1):
+        yield doc(element(0x01, "a", le(bits, 8))), typed("a", 0x01)
+    for t in ("", "a", "\0", "a\0b", "\U0001f6f0", "\x7f", "é" * 40, "x" * 33):
+        for tag in (0x02, 0x0D, 0x0E):
+            yield doc(element(tag, "a", text(t))), typed("a", tag)
+        yield doc(element(0x0C, "a", text(t) + ID)), gets("a")
+        yield doc(element(SCOPE, "a", with_scope(t, doc()))), gets("a")
+    for subtype in (*range(12), 0x7F, 0x80, 0xFF):
+        yield doc(element(0x05, "a", le(4) + bytes([subtype]) + le(0))), typed("a", 0x05)
+    for p in ("", "a", "é"):
+        for o in ("", "i", "imsx"):
+            yield doc(element(0x0B, "a", raw(p) + b"\0" + raw(o) + b"\0")), typed("a", 0x0B)
+    for k in range(8):
+        yield doc(*(element(NULL, str(i)) for i in range(k))), gets("0", "7")
+
+
+def booleans():
+    for b in range(256):
+        yield doc(element(0x08, "a", bytes([b])), BATTERY), typed("a", 0x08) + gets("battery")
+
+
+# ---- admission
+
+
+def admissions():
+    for n in range(0, 9):
+        for declared in (n - 1, n, n + 1, -1, n - 2**31, 0, 5, n << 8, n << 24):
+            for last in (0, 1):
+                s = (le(declared) + b"\0" * 8)[:n]
+                yield (s[:-1] + bytes([last]) if n > 4 else s), gets("")
+    d = framed(0x02, SAMPLES[0x02])
+    for wrong in (len(d) - 1, len(d) + 1, -len(d), 0, 4, 5, 2**31 - 1, -(2**31), len(d) << 8, len(d) + 2**31):
+        yield le(wrong) + d[4:], typed("battery", INT32)
+    for last in (1, 0x0A, 0x80, 0xFF):
+        yield d[:-1] + bytes([last]), typed("battery", INT32)
+    for n in range(len(d)):
+        yield d[:n], typed("battery", INT32)
+    yield d + b"\0", gets("battery")
+
+
+# ---- damage to a framed value of each type
+
+
+def lengths():
+    """Each length field one off, negative, huge, and such that the value ends at, in or behind the terminator."""
+    for tag, value in SAMPLED:
+        for field in (0, 5) if value is OLD_BINARY else FIELDS.get(tag, ()):
+            d = framed(tag, value)
+            where = VALUE_AT + field
+            true = int.from_bytes(d[where : where + 4], "little")
+            rest = len(d) - where
+            values = {true + i for i in range(-6, 7)} | set(range(0, 10)) | {rest + i for i in range(-18, 2)}
+            for n in sorted(values | {-1, -true, -(2**31), 2**31 - 1, 2**31 - 5, 2**31 - 12, 2**30, true << 8, true << 24, true - 2**31}):
+                yield d[:where] + le(n) + d[where + 4 :], gets("a", "battery")
+
+
+def cuts():
+    """Cut behind each byte, with the length that is left and the last byte made zero."""
+    for tag, value in SAMPLED:
+        d = framed(tag, value)
+        for n in range(VALUE_AT - 2, VALUE_AT + len(value) + 2):
+            yield le(n) + d[4 : n - 1] + b"\0", typed("a", tag)
+    for tag, value in SAMPLED:
+        for short in range(1, min(len(value), 5) + 1):
+            yield doc(element(tag, "a", value[:-short])), gets("a")
+
+
+def changed():
+    """Each byte of a framed value and its tag and key changed."""
+    for tag, value in SAMPLED:
+        d = framed(tag, value)
+        for i in range(VALUE_AT - 3, VALUE_AT + len(value)):
+            for b in sorted({0, 0xFF, d[i] ^ 1} - {d[i]}):
+                yield d[:i] + bytes([b]) + d[i + 1 :], gets("a", "battery")
+
+
+def zeros():
+    """Each zero dropped, doubled, and moved one byte on."""
+    for tag, value in SAMPLED:
+        d = framed(tag, value)
+        for i in range(4, len(d) - 1):
+            if d[i] == 0:
+                yield resized(d[:i] + d[i + 1 :]), gets("battery")
+                yield resized(d[:i] + b"\0" + d[i:]), gets("battery")
+                if d[i + 1] != 0 and i + 2 < len(d):
+                    yield d[:i] + d[i + 1 : i + 2] + b"\0" + d[i + 2 :], gets("battery")
+
+
+def tags():
+    """Each tag before values of every class, and each sample under every other tag."""
+    for tag in range(256):
+        for value in (le(5) + b"\0" * 21, le(14) + text("") + doc()):
+            yield doc(element(tag, "a", value), BATTERY), gets("battery")
+    for tag, value in SAMPLED:
+        for other in sorted(SAMPLES):
+            if other != tag:
+                yield framed(other, value), gets("a")
+
+
+def fixed_ends():
+    """A last value that is just there, runs into the terminator, or past it."""
+    for tag, value in SAMPLES.items():
+        if tag in FIELDS or tag == 0x0B:
+            continue
+        size = len(value)
+        for n in range(max(size - 2, 0), size + 3):
+            for b in (0, 1):
+                yield doc(element(tag, "", bytes([b]) * n)), gets("")
+
+
+# ---- UTF-8: the rows of RFC 3629, section 4, at their ends
+
+TAIL = (0x80, 0xBF)
+ROWS = [
+    [(0x00, 0x7F)],
+    [(0xC2, 0xDF), TAIL],
+    [(0xE0, 0xE0), (0xA0, 0xBF), TAIL],
+    [(0xE1, 0xEC), TAIL, TAIL],
+    [(0xED, 0xED), (0x80, 0x9F), TAIL],
+    [(0xEE, 0xEF), TAIL, TAIL],
+    [(0xF0, 0xF0), (0x90, 0xBF), TAIL, TAIL],
+    [(0xF1, 0xF3), TAIL, TAIL, TAIL],
+    [(0xF4, 0xF4), (0x80, 0x8F), TAIL, TAIL],
+]
+
+
+def row_texts():
+    """Each row's first and last character, each byte one below and one above its range, and each cut short."""
+    for row in ROWS:
+        low, high = [r[0] for r in row], [r[1] for r in row]
+        yield low
+        yield high
+        for i, (a, z) in enumerate(row):
+            for base in (low, high):
+                if a > 0:
+                    yield base[:i] + [a - 1] + base[i + 1 :]
+                if z < 255:
+                    yield base[:i] + [z + 1] + base[i + 1 :]
+        for n in range(1, len(row)):
+            yield low[:n]
+            yield high[:n] + [0x61]
+
+
+def texts():
+    """Every such text as key, string, pattern, options, code, symbol, namespace and code of a code with scope."""
+    for t in map(bytes, row_texts()):
+        yield doc(element(NULL, t), BATTERY), gets(t, "battery")
+        yield doc(element(0x02, "a", text(t)), BATTERY), typed("a", 0x02) + gets("battery")
+        yield doc(element(0x0B, "a", t + b"\0i\0")), gets("a")
+        yield doc(element(0x0B, "a", b"p\0" + t + b"\0")), gets("a")
+        yield doc(element(0x0D, "a", text(t))), gets("a")
+        yield doc(element(0x0E, "a", text(t))), gets("a")
+        yield doc(element(0x0C, "a", text(t) + ID)), gets("a")
+        yield doc(element(SCOPE, "a", with_scope(t, doc()))), gets("a")
+
+
+# ---- code with scope
+
+
+def codes_with_scope():
+    """Sizes 0 to 20, each with code and scope of every fit; and code and scope bad at once, in each pairing."""
+    for n in range(21):
+        for code in sorted({0, 1, 2, n - 13, n - 9, n - 8, n - 4} & set(range(-1, 14))):
+            body = le(code) + b"\0" * max(code, 0) + le(n - 8 - code) + b"\0" * 16
+            yield doc(element(SCOPE, "a", le(n) + body[: max(n - 4, 0)])), gets("a")
+            yield doc(element(SCOPE, "a", le(n) + body), BATTERY), gets("battery")
+    codes = (text("x"), text(b"\xff"), le(2) + b"xx", le(0) + b"\0", le(-1) + b"\0", le(99) + b"\0", le(7) + b"\0" * 7)
+    scopes = [doc(), doc(BATTERY), doc(element(0x08, "y", b"\2")), doc(element(0x14, "y"))]
+    scopes += [b"", b"\0", le(5), le(6) + b"\0", le(5) + b"\1", le(4) + b"\0", le(-5) + b"\0"]
+    for code in codes:
+        for scope in scopes:
+            yield doc(element(SCOPE, "a", le(4 + len(code + scope)) + code + scope), BATTERY), gets("a", "battery")
+
+
+# ---- nesting
+
+
+def nesting():
+    """Around depth 200, through documents, arrays and scopes, with what lies innermost good or bad."""
+    inner = (doc(), doc(element(NULL, "")), doc(element(0x08, "", b"\2")), doc(element(0x14, "")))
+    for k in range(199, 204):
+        yield nested(k), []
+        yield nested(k, ARRAY, "0"), []
+    for k in (200, 201):
+        for d in inner[1:]:
+            yield nested(k, innermost=d), []
+    for k in range(99, 103):
+        for d in inner:
+            yield nested(k, SCOPE, innermost=d), []
+    for k in (198, 199, 200):
+        yield nested(k, innermost=doc(element(SCOPE, "", with_scope("", inner[1])))), []
+        yield nested(k, innermost=doc(element(SCOPE, "", with_scope("", inner[0])))), []
+        yield nested(k, innermost=doc(element(SCOPE, "", le(3)))), []
+    yield doc(element(DOCUMENT, "", nested(200)), element(DOCUMENT, "", nested(201)), element(0x14, "")), []
+
+
+def inner_damage():
+    """Damage one and two levels down, whose place counts from the outermost byte."""
+    for tag, value in SAMPLED:
+        for bad in (value[:-1] + b"\7" if value else b"\7", value + b"\1"):
+            d = doc(element(NULL, "n"), element(tag, "a", bad))
+            yield doc(element(DOCUMENT, "d", d), BATTERY), gets("d", "battery")
+            yield doc(element(ARRAY, "d", doc(element(DOCUMENT, "0", d)))), gets("d")
+            yield doc(element(SCOPE, "d", with_scope("x", d)), BATTERY), gets("d")
+
+
+# ---- keys
+
+
+def lookups():
+    """First, middle, last, absent, repeated, empty and similar keys; damage before, at and behind the match; keys that no element can have."""
+    keys = ("battery", "batter", "batteryy", "", "b", "Battery")
+    parts = [element(INT32, key, le(i)) for i, key in enumerate(keys)]
+    asks = gets(*keys, "absent", "batterz", b"battery\0", b"\xff", b"\0")
+    asks += typed("battery", *GETTERS, 0x00, 0x06, 0x14, 0xFF) + typed("absent", INT32, 0x14)
+    for i in range(len(parts)):
+        yield doc(*parts[i:], *parts[:i]), asks
+        yield doc(*parts[i:], *(element(INT32, k, le(99)) for k in keys)), asks
+    unframed = [element(0x14, "x"), element(0x02, "x", le(0)), element(INT32, b"\xff", le(0))]
+    unread = [element(0x08, "x", b"\2"), element(0x02, "battery", text(b"\xff")), element(SCOPE, "battery", le(3))]
+    for bad in unframed + unread:
+        for i in range(3):
+            yield doc(*parts[:i], bad, *parts[i:]), gets("battery", "", "x", "absent", b"\xff") + typed("battery", INT32, 0x02) + typed("x", 0x08)
+    # the night's frame: a text whose damaged length ends before bytes that are shaped like a battery element
+    full = element(INT32, "battery", le(100))
+    for n in range(1, 32):
+        yield doc(element(0x02, "note", le(n) + b"ok\0" + full + b"\0"), BATTERY), gets("battery") + typed("battery", INT32)
+
+
+def array_keys():
+    """Array keys for the strict check, at the top of an array and below."""
+    digits = [["0"], ["0", "1"], ["9", "7"], ["00"], ["0", "0"], ["4294967296"]]
+    others = [[""], ["/"], [":"], ["a"], ["1a"], ["-1"], ["+1"], [" 1"], ["٣"], ["0", "x"], ["xxx", "0"]]
+    for keys in digits + others:
+        array = doc(*(element(NULL, key) for key in keys))
+        yield doc(element(ARRAY, "a", array)), gets("a")
+        yield doc(element(DOCUMENT, "a", array), element(ARRAY, "x", doc(element(DOCUMENT, "0", array)))), gets("a")
+        yield doc(element(ARRAY, "x", doc(element(ARRAY, "0", array), element(0x08, "y", b"\2")))), gets("a")
+        yield doc(element(ARRAY, "x", doc(element(SCOPE, "0", with_scope("", doc(element(ARRAY, "s", array))))))), gets("a")
+        yield array, gets(*keys)
+    yield doc(element(ARRAY, "a", doc(element(0x08, "x", b"\2")))), gets("a")
+    yield doc(element(ARRAY, "a", doc(element(0x08, "0", b"\2")))), gets("a")
+
+
+# ---- a beacon frame, battery first
+
+
+def beacon():
+    cells = doc(*(element(INT32, str(i), le(mv)) for i, mv in enumerate((4112, 4109, 4115, 4098))))
+    power = doc(element(INT32, "battery", le(16434)), element(INT32, "load", le(2310)), element(ARRAY, "cells", cells))
+    return doc(
+        BATTERY,
+        element(0x02, "call", text("DP0FWL")),
+        element(0x09, "time", le(1794715680000, 8)),
+        element(0x11, "pass", le(3) + le(1794715680)),
+        element(0x12, "uptime", le(8640017, 8)),
+        element(0x08, "safe", b"\0"),
+        element(0x01, "tilt", bytes.fromhex("000000000000e03f")),
+        element(DOCUMENT, "power", power),
+        element(0x05, "star", le(6) + b"\0" + bytes.fromhex("0123456789ab")),
+        element(0x02, "note", text("Grüße aus 520 km")),
+        element(NULL, "fault"),
+    )
+
+
+def beacons():
+    d = beacon()
+    yield d, gets("battery", "note", "power", "load", "fault") + typed("battery", *GETTERS) + typed("power", DOCUMENT)
+    for i in range(4, len(d), 3):
+        yield d[:i] + bytes([d[i] ^ 0x20]) + d[i + 1 :], gets("battery", "note")
+
+
+# ---- documents at random, and damaged copies of them
+
+
+class Dice:
+    """Knuth's 64-bit congruential generator: the same documents on every machine."""
+
+    def __init__(self, seed):
+        self.state = seed
+
+    def below(self, n):
+        self.state = (self.state * 6364136223846793005 + 1442695040888963407) % 2**64
+        return (self.state >> 33) % n
+
+    def pick(self, options):
+        return options[self.below(len(options))]
+
+
+def at_random(dice, depth):
+    parts = []
+    for i in range(dice.below(5)):
+        tag, value = dice.pick(SAMPLED)
+        if tag in (DOCUMENT, ARRAY, SCOPE) and depth:
+            inner = at_random(dice, depth - 1)
+            value = with_scope("x", inner) if tag == SCOPE else inner
+        parts.append(element(tag, dice.pick(("a", "b", "battery", str(i))), value))
+    return doc(*parts)
+
+
+def randoms():
+    dice = Dice(20261115)
+    for _ in range(150):
+        d = at_random(dice, 2)
+        yield d, gets("battery")
+        i = dice.below(len(d))
+        yield d[:i] + bytes([dice.below(256)]) + d[i + 1 :], gets("battery")
+        i = 4 + dice.below(len(d) - 4)
+        yield resized(d[:i] + bytes([dice.pick((0, 1, 5, 0x10, 0xFF))]) + d[i:]), gets("battery")
+
+
+GROUPS = (
+    tried, good_values, booleans, admissions, lengths, cuts, changed, zeros, tags, fixed_ends,
+    texts, codes_with_scope, nesting, inner_damage, lookups, array_keys, beacons, randoms,
+)
+
+
+def documents():
+    """All documents, each once with the asks that came with it first."""
+    seen = {}
+    for group in GROUPS:
+        for d, asks in group():
+            seen.setdefault(bytes(d), asks)
+    return list(seen.items())

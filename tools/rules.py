@@ -1,0 +1,274 @@
+"""Document 01's rules for reading, written from its text: what every call must answer, with number and place.
+
+A function gives its answer or raises Refused. UTF-8 is judged by Python's own decoder, which follows RFC 3629.
+"""
+from collections import namedtuple
+
+Element = namedtuple("Element", "place tag key offset size")  # offset and size are those of the framed value
+
+KINDS = {6: "utf8", 13: "recursion", 16: "not-present", 17: "unexpected-type", 19: "added"}
+
+
+class Refused(Exception):
+    def __init__(self, number, place=0):
+        super().__init__(number, place)
+        self.number, self.place = number, place
+
+    def kind(self):
+        """The table's column 'Rust kind'."""
+        return KINDS.get(self.number, "malformed")
+
+
+def unless(test, number, place=0):
+    if not test:
+        raise Refused(number, place)
+
+
+def at(place, rule, *args):
+    """The rule's answer; its refusal, with this place."""
+    try:
+        return rule(*args)
+    except Refused as refused:
+        raise Refused(refused.number, place) from None
+
+
+# ---- numbers, UTF-8 and zero-ended texts
+
+
+def unsigned(v, size):
+    unless(len(v) >= size, 9)
+    return int.from_bytes(v[:size], "little")
+
+
+def signed(v, size):
+    unless(len(v) >= size, 9)
+    return int.from_bytes(v[:size], "little", signed=True)
+
+
+def boolean(v):
+    b = unsigned(v, 1)
+    unless(b <= 1, 11)
+    return b
+
+
+def is_utf8(v):
+    try:
+        bytes(v).decode("utf-8")
+        return True
+    except UnicodeDecodeError:
+        return False
+
+
+def cstring(v):
+    """The size of the text before the first zero."""
+    n = bytes(v).find(0)
+    unless(n >= 0, 5)
+    unless(is_utf8(v[:n]), 6)
+    return n
+
+
+# ---- framing: how many bytes a value has
+
+
+def length_field(v, present, least):
+    unless(len(v) >= present, 8)
+    n = signed(v, 4)
+    unless(n >= least, 8)
+    return n
+
+
+def fits(size, v):
+    unless(size <= len(v), 9)
+    return size
+
+
+def zero_ended(size, v):
+    fits(size, v)
+    unless(v[size - 1] == 0, 10)
+    return size
+
+
+def string(v):
+    return zero_ended(4 + length_field(v, 4, 1), v)
+
+
+def pointer(v):
+    return fits(string(v) + 12, v)
+
+
+def document(v):
+    return zero_ended(length_field(v, 5, 5), v)
+
+
+def binary(v):
+    return fits(5 + length_field(v, 4, 0), v)
+
+
+def scope(v):
+    return fits(length_field(v, 4, 0), v)
+
+
+def regex(v):
+    pattern = cstring(v) + 1
+    return pattern + cstring(v[pattern:]) + 1
+
+
+FIXED = {0x08: 1, 0x10: 4, 0x01: 8, 0x12: 8, 0x09: 8, 0x11: 8, 0x07: 12, 0x13: 16, 0x0A: 0, 0x06: 0, 0xFF: 0, 0x7F: 0}
+FRAMED = {0x02: string, 0x0D: string, 0x0E: string, 0x0C: pointer, 0x03: document, 0x04: document, 0x05: binary, 0x0B: regex, 0x0F: scope}
+
+
+def value_size(tag, v):
+    unless(tag in FIXED or tag in FRAMED, 7)
+    return fits(FIXED[tag], v) if tag in FIXED else FRAMED[tag](v)
+
+
+# ---- admission and one step
+
+
+def admit(s):
+    unless(len(s) >= 5, 1)
+    unless(signed(s, 4) == len(s), 2)
+    unless(s[-1] == 0, 3)
+    return len(s)
+
+
+def element(s, place):
+    k = cstring(s[place + 1 :])
+    offset = place + 1 + k + 1
+    return Element(place, s[place], s[place + 1 : place + 1 + k], offset, value_size(s[place], s[offset:]))
+
+
+def step(s, offset):
+    """The element at an offset, or None at the terminator."""
+    admit(s)
+    unless(4 <= offset < len(s), 4, offset)
+    return None if offset == len(s) - 1 else at(offset, element, s, offset)
+
+
+def elements(s):
+    """The elements that steps yield from offset 4 on; a refused step ends them by its refusal."""
+    e = step(s, 4)
+    while e:
+        yield e
+        e = step(s, e.offset + e.size)
+
+
+# ---- values: a word and numbers; a part of the slice is its offset and its size
+
+NUMBERS = {
+    0x08: ("boolean", boolean),
+    0x10: ("int32", lambda v: signed(v, 4)),
+    0x12: ("int64", lambda v: signed(v, 8)),
+    0x09: ("datetime", lambda v: signed(v, 8)),
+    0x01: ("double", lambda v: unsigned(v, 8)),
+}
+TEXTS = {0x02: "string", 0x0D: "code", 0x0E: "symbol"}
+WHOLE = {0x03: "document", 0x04: "array", 0x07: "objectid", 0x13: "decimal128"}
+EMPTY = {0x0A: "null", 0x06: "undefined", 0xFF: "minkey", 0x7F: "maxkey"}
+
+
+def text(v, base):
+    """A string's text within its framed bytes, without length and final zero."""
+    n = string(v)
+    unless(is_utf8(v[4 : n - 1]), 6)
+    return base + 4, n - 5
+
+
+def binary_value(v, base):
+    if v[4] != 2:
+        return "binary", v[4], base + 5, len(v) - 5
+    unless(len(v) >= 9 and signed(v[5:], 4) == len(v) - 9, 12)
+    return "binary", 2, base + 9, len(v) - 9
+
+
+def regex_value(v, base):
+    pattern = cstring(v)
+    return "regex", base, pattern, base + pattern + 1, cstring(v[pattern + 1 :])
+
+
+def scope_value(v, base):
+    unless(len(v) >= 14, 12)
+    code = text(v[4:], base + 4)
+    start = 4 + string(v[4:])
+    unless(start < len(v), 12)
+    admit(v[start:])
+    return "codewithscope", *code, base + start, len(v) - start
+
+
+def content(v, tag, base):
+    if tag in NUMBERS:
+        return NUMBERS[tag][0], NUMBERS[tag][1](v)
+    if tag in TEXTS:
+        return TEXTS[tag], *text(v, base)
+    if tag in WHOLE:
+        return WHOLE[tag], base, len(v)
+    if tag in EMPTY:
+        return (EMPTY[tag],)
+    if tag == 0x11:
+        return "timestamp", unsigned(v, 4), unsigned(v[4:], 4)
+    if tag == 0x0C:
+        return "dbpointer", *text(v, base), base + len(v) - 12, 12
+    return {0x05: binary_value, 0x0B: regex_value, 0x0F: scope_value}[tag](v, base)
+
+
+def value_of(s, e):
+    return at(e.place, content, s[e.offset : e.offset + e.size], e.tag, e.offset)
+
+
+# ---- lookup
+
+
+def get(s, key):
+    """The first element of the key, and its value."""
+    for e in elements(s):
+        if e.key == key:
+            return e, value_of(s, e)
+    raise Refused(16, len(s) - 1)
+
+
+def get_with(s, key, tag):
+    e, value = get(s, key)
+    unless(e.tag == tag, 17, e.place)
+    return e, value
+
+
+def is_empty(s):
+    return admit(s) == 5
+
+
+# ---- the whole check
+
+# what opens, and how much deeper its values lie
+OPENS = {"document": 1, "array": 1, "codewithscope": 2}
+
+
+def visit(s, e, depth, array, strict):
+    """An element's value, where its key (strict, in an array), its value and its depth pass."""
+    unless(not (strict and array) or e.key.isdigit(), 19, e.place)
+    value = value_of(s, e)
+    unless(depth <= 200, 13, e.place)
+    return value
+
+
+def inside(s, offset, size, *level):
+    """The walk of a document within s; places count from the first byte of s."""
+    try:
+        return walk(s[offset : offset + size], *level)
+    except Refused as refused:
+        raise Refused(refused.number, offset + refused.place) from None
+
+
+def walk(s, depth, array, strict):
+    """How many values there are in a document and below it."""
+    count = 0
+    for e in elements(s):
+        word, *numbers = visit(s, e, depth, array, strict)
+        count += 1
+        if word in OPENS:
+            offset, size = numbers[-2:]
+            count += inside(s, offset, size, depth + OPENS[word], word == "array", strict)
+    return count
+
+
+def check(s, strict=False):
+    return walk(s, 0, False, strict)

@@ -1,0 +1,49 @@
+#!/usr/bin/env python3
+"""Tries the replay itself: in copies of the list's lines one field of one part is made wrong, and the vectors program must report just that part.
+
+usage: tools/try_replay.py VECTORS     the built program
+"""
+import subprocess
+import sys
+
+from make_cases import READ_BY_LEAVES, documents, line
+
+EVERY = 40  # one document of the list in so many
+
+
+def compared(fields):
+    """The fields of a part that the program compares: those of an answer that the leaves give, but for a refusal's kind; of others the word."""
+    if fields[0] not in ("admission", "at"):
+        return [0]
+    framed_only = fields[0] == "at" and fields[2] not in READ_BY_LEAVES | {"end", "refused"}
+    return [j for j in range(1, 5 if framed_only else len(fields)) if fields[j - 1] != "refused"]
+
+
+def wrong(field):
+    return str(int(field) + 1) if field.isdigit() else field + "x"
+
+
+def wrong_lines(text):
+    """Copies with one field made wrong, each with the part that is now wrong."""
+    parts = text.split("; ")
+    for i, part in enumerate(parts[1:], 1):
+        fields = part.split(" ")
+        for j in compared(fields):
+            bad = " ".join(fields[:j] + [wrong(fields[j])] + fields[j + 1 :])
+            yield "; ".join(parts[:i] + [bad] + parts[i + 1 :]), bad
+
+
+def main():
+    lines, reports = [], []
+    for d, asks in documents()[::EVERY]:
+        for text, bad in wrong_lines(line(d, asks)):
+            lines.append(text)
+            reports.append(f"differs: {bad} of {d.hex()}")
+    said = subprocess.run([sys.argv[1]], input="".join(f"{t}\n" for t in lines), capture_output=True, text=True, check=True).stdout.splitlines()
+    missed = [r for r in reports if r not in set(said)]
+    if said[:-1] != reports or f", {len(reports)} differ, " not in said[-1]:
+        sys.exit("\n".join(["the replay did not report just the wrong parts", *missed[:5]]))
+    print(f"the replay reports each of {len(reports)} wrong fields")
+
+
+main()
