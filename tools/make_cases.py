@@ -50,8 +50,8 @@ def steps(s):
         yield words("at", offset, "refused", r.kind(), r.place, r.number)
 
 
-def found(s, *asked):
-    e, value = (rules.get if len(asked) == 1 else rules.get_with)(s, *asked)
+def found(s, *ask):
+    e, value = (rules.get if len(ask) == 1 else rules.get_with)(s, *ask)
     return e.place, *value
 
 
@@ -83,13 +83,17 @@ def without_marks(text):
     return re.sub(r" \*(?=;|$)", "", text)
 
 
+# how many fields the parts have that the oracle may leave without an answer, since the Rust may have no such call
+UNASKED = {"strict": 1, "get": 2, "typed": 3}
+
+
 def part_said(ours, theirs):
     """The part of the list: the rules' answer, with the oracle's star; None where the two can't both be right."""
     star = " *" if theirs.endswith(" *") else ""
     theirs = theirs.removesuffix(" *")
+    fields = ours.split(" ")
+    unasked = star and theirs == words(*fields[: UNASKED.get(fields[0], 0)])
     by_kind = re.sub(r"(refused \S+ \d+) \d+$", r"\1", ours)
-    # a call that the Rust does not have is answered by a star alone
-    unasked = star and ours.startswith(theirs + " ") and theirs.split(" ")[0] in ("strict", "get", "typed")
     return ours + star if theirs == by_kind or unasked else None
 
 

@@ -1,18 +1,18 @@
 // Replays a list from standard input. A line that begins with `document ` is a document with its answers, which are
 // compared; any other line is a question to a leaf, which is printed again with the answer behind it.
-mod cases;
 mod documents;
 mod progress;
+mod questions;
 mod readings;
 mod text;
 mod values;
 
 ghost use Prim.Native.Nat.{_≤_};
 ghost use lib.ListN.{length};
-use cases::replay_case;
 use documents::replay_document;
 use libc::STDIN_FILENO;
 use progress::Progress;
+use questions::replay_question;
 use text::behind;
 use text::find;
 use text::say;
@@ -22,7 +22,7 @@ fn replay_line(line: &[u8], progress: Progress) -> Progress {
     if (8 < line.len()) & (word_number(b"document", line) == 1) {
         return replay_document(line, progress);
     }
-    replay_case(line);
+    replay_question(line);
     progress
 }
 

@@ -43,7 +43,7 @@ fn say_reading(r: Reading) {
             say(b"refuses ");
             say_number(number as u64);
         }
-        _ => say(b"is no case"),
+        _ => say(b"is no question"),
     }
 }
 
@@ -83,7 +83,7 @@ fn say_answer(line: &[u8], answer: Reading) {
     say(b"\n");
 }
 
-pub fn replay_case(line: &[u8]) {
+pub fn replay_question(line: &[u8]) {
     let mut first = [0u8; 4096];
     let mut second = [0u8; 4096];
     let n = unhex(field(line, 1), &mut first);
