@@ -79,7 +79,7 @@ FIELDS = {tag: (0,) for tag in (0x02, 0x03, 0x04, 0x05, 0x0C, 0x0D, 0x0E)} | {0x
 
 
 def framed(tag, value):
-    """A value between two others; the second is the one that the panel reads."""
+    """A value between two others, of which the panel reads the last."""
     return doc(element(NULL, "z"), element(tag, "a", value), BATTERY)
 
 
