@@ -2,10 +2,13 @@
 use Prim.Native.Nat.{ℕ}
 use mathlib.Core.List.{List, [], _∷_}
 use mathlib.Core.Bool.{true, false, cond}
+use lib.ListN.{length}
 use Rattle.bson.specs.Answer.{Answer, gives, refuses, then}
 use Rattle.bson.specs.Step.{cursor, step}
-use Rattle.bson.specs.Value.{readAt}
-use Rattle.bson.specs.Lookup.{get, getWith, isEmpty}
+use Rattle.bson.specs.Bytes.{le32}
+use Rattle.bson.specs.Value.{first, valueOf, readAt, readWith, partAt}
+use Rattle.bson.specs.Vectors.{elem}
+use Rattle.bson.specs.Lookup.{get, getBytes, getWith, isEmpty}
 use Rattle.bson.specs.Check.{check}
 
 -- an answer of which only the refusal matters
@@ -26,6 +29,14 @@ arrayKeyed a b = 0x10 ∷ 0 ∷ 0 ∷ 0 ∷ 0x04 ∷ 0 ∷ 0x09 ∷ 0 ∷ 0 ∷ 
 -- code with scope of empty code, its scope five bytes of which the first is given
 abbrev pub scopeOf : ℕ → List ℕ
 scopeOf n = 0x15 ∷ 0 ∷ 0 ∷ 0 ∷ 0x0F ∷ 0 ∷ 0x0E ∷ 0 ∷ 0 ∷ 0 ∷ 0x01 ∷ 0 ∷ 0 ∷ 0 ∷ 0 ∷ n ∷ 0 ∷ 0 ∷ 0 ∷ 0 ∷ 0 ∷ []
+
+-- a boolean byte of 2
+abbrev pub badBoolean : List ℕ
+badBoolean = 0x08 ∷ 0 ∷ 0 ∷ 0 ∷ 0x08 ∷ 0 ∷ 0x02 ∷ 0 ∷ []
+
+-- binary data of subtype 2, one byte behind its inner length
+abbrev pub oldBinary : List ℕ
+oldBinary = 0x11 ∷ 0 ∷ 0 ∷ 0 ∷ 0x05 ∷ 0 ∷ 0x05 ∷ 0 ∷ 0 ∷ 0 ∷ 0x02 ∷ 0x01 ∷ 0 ∷ 0 ∷ 0 ∷ 0xAA ∷ 0 ∷ []
 
 -- what the definition says, and what was settled
 unfoldable pub points : List (Answer ℕ × Answer ℕ)
@@ -58,6 +69,20 @@ points =
     ∷ (given (getWith twoKeys (0x61 ∷ []) 0x10), refuses 17 4)
     ∷ (given (getWith twoKeys (0x61 ∷ []) 0x14), refuses 17 4)
     ∷ (given (getWith twoKeys (0x62 ∷ []) 0x14), refuses 16 12)
+    -- the value's refusal comes before 17, in a lookup and in a reading; a value of its tag, and of another
+    ∷ (given (getWith badBoolean [] 0x10), refuses 11 4)
+    ∷ (given (readWith badBoolean 4 0x10), refuses 11 4)
+    ∷ (given (readWith twoKeys 8 0x08), gives 0)
+    ∷ (given (readWith twoKeys 8 0x10), refuses 17 8)
+    -- an element of the caller's own whose value runs past the slice
+    ∷ (given (valueOf twoKeys (elem 8 0x08 1 1)), gives 0)
+    ∷ (given (valueOf twoKeys (elem 8 0x08 1 3)), refuses 9 8)
+    -- the parts of a value; none where its twin refuses
+    ∷ (gives (le32 (partAt oldBinary 4 0x05 first)), gives 0xAA)
+    ∷ (gives (length (partAt oldBinary 4 0x05 first)), gives 1)
+    ∷ (gives (length (partAt oldBinary 4 0x02 first)), gives 0)
+    -- the framed bytes that a lookup hands back
+    ∷ (gives (length (getBytes oldBinary [])), gives 10)
     -- a strict array key: ASCII digits, one or more
     ∷ (check true (arrayKeyed 0x30 0x39), gives 2)
     ∷ (check true (arrayKeyed 0x2F 0x30), refuses 19 10)
@@ -71,7 +96,7 @@ points =
     -- a negative length of an embedded document
     ∷ (check false (0x0B ∷ 0 ∷ 0 ∷ 0 ∷ 0x03 ∷ 0 ∷ 0xFF ∷ 0xFF ∷ 0xFF ∷ 0xFF ∷ 0 ∷ []), refuses 8 4)
     -- data of subtype 2: one byte behind its length, and under four bytes
-    ∷ (check false (0x11 ∷ 0 ∷ 0 ∷ 0 ∷ 0x05 ∷ 0 ∷ 0x05 ∷ 0 ∷ 0 ∷ 0 ∷ 0x02 ∷ 0x01 ∷ 0 ∷ 0 ∷ 0 ∷ 0xAA ∷ 0 ∷ []), gives 1)
+    ∷ (check false oldBinary, gives 1)
     ∷ (check false (0x0F ∷ 0 ∷ 0 ∷ 0 ∷ 0x05 ∷ 0 ∷ 0x03 ∷ 0 ∷ 0 ∷ 0 ∷ 0x02 ∷ 0 ∷ 0 ∷ 0 ∷ 0 ∷ []), refuses 12 4)
     ∷ []
 

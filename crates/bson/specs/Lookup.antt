@@ -3,15 +3,19 @@ use Prim.Native.Nat.{ℕ}
 use mathlib.Core.List.{List}
 use mathlib.Core.Bool.{Bool, cond}
 use lib.Dec.{eqb}
-use Rattle.bson.specs.Answer.{Answer, gives, refuses, then, at, unless}
+use Rattle.bson.specs.Answer.{Answer, gives, refuses, then, at}
 use Rattle.bson.specs.Bytes.{bytes, same}
 use Rattle.bson.specs.Step.{terminator, admitted, Element, Iteration, ended, broken, more, iterate}
-use Rattle.bson.specs.Value.{Value, valueOf}
+use Rattle.bson.specs.Value.{Value, valueOf, ofTag, Which, partOf, handed}
 
--- "hands back a part of the document, never of the key: the value's framed bytes", which are the element's part `value`
+-- what a lookup finds: the element and its value
 pub record Found : Type 0 where
   pub element : Element
   pub value : Value
+
+-- a match is read, which may refuse
+unfoldable pub found : List ℕ → Element → Answer Found
+found s e = then (valueOf s e) λ v. gives (record { element = e; value = v })
 
 -- "goes by equal bytes, stops at the first match and reads it, returning the value's refusal if there is one;
 -- damage behind it is not seen, damage before it is returned; no match is 16". A key that is not UTF-8 "matches nothing"
@@ -21,18 +25,30 @@ first s key ended = refuses 16 (terminator s)
 first s key (broken n p) = refuses n p
 first s key (more e rest) =
     cond (same key (bytes s (e .key)))
-    (then (valueOf s e) λ v. gives (record { element = e; value = v }))
+    (found s e)
     (first s key rest)
 
 -- "iteration starts at 4"
 unfoldable pub get : List ℕ → List ℕ → Answer Found
 get s key = first s key (iterate s 4)
 
--- "16, then the value's refusal, then 17"
+-- "lookup hands back a part of the document, never of the key: the value's framed bytes"; the twin is `get`
+unfoldable pub getBytes : List ℕ → List ℕ → List ℕ
+getBytes s key = handed s (then (get s key) λ f. gives (f .element .value))
+
+-- "typed lookup: 16, then the value's refusal, then 17"
 unfoldable pub getWith : List ℕ → List ℕ → ℕ → Answer Found
-getWith s key tag =
-    then (get s key) λ f.
-    at (f .element .place) (unless (eqb (f .element .tag) tag) 17 (gives f))
+getWith s key tag = then (get s key) λ f. ofTag (f .element) tag f
+
+-- a typed getter gives the number that the framed bytes hold
+abbrev pub typed : {A : Type 0} → (List ℕ → Answer A) → List ℕ → List ℕ → ℕ → Answer A
+typed number s key tag =
+    then (getWith s key tag) λ f.
+    at (f .element .place) (number (bytes s (f .element .value)))
+
+-- or a part of the value; the twin is `getWith`
+unfoldable pub getPart : List ℕ → List ℕ → ℕ → Which → List ℕ
+getPart s key tag w = handed s (then (getWith s key tag) λ f. gives (partOf w (f .value)))
 
 -- `is_empty`: a document of five bytes has no element
 unfoldable pub isEmpty : List ℕ → Answer Bool

@@ -1,11 +1,11 @@
 -- Admission, the cursor, one step and iteration (document 01, "Admission and one step").
 use Prim.Native.Nat.{ℕ, zero, suc, _+_, _-_}
-use mathlib.Core.List.{List}
+use mathlib.Core.List.{List, []}
 use mathlib.Core.Bool.{Bool, true, false, cond, _&&_}
 use lib.ListN.{length, getD, drop}
 use lib.Dec.{leb, eqb}
 use Rattle.bson.specs.Answer.{Answer, gives, refuses, then, unless, at}
-use Rattle.bson.specs.Bytes.{le32, natural, Part, part}
+use Rattle.bson.specs.Bytes.{le32, natural, Part, part, bytes}
 use Rattle.bson.specs.Cstring.{cstring}
 use Rattle.bson.specs.Framing.{valueSize}
 
@@ -51,6 +51,9 @@ pub data Step : Type 0 where
   yield : Element → Step
   end : Step
 
+abbrev pub yielding : List ℕ → ℕ → Answer Step
+yielding s p = then (element s p) λ e. gives (yield e)
+
 -- "admission; ended cursor (answers end); 4; at the terminator (end)", then the element
 unfoldable pub step : List ℕ → Cursor → Answer Step
 step s c =
@@ -59,13 +62,22 @@ step s c =
     (at (c .offset)
     (unless (leb 4 (c .offset) && leb (c .offset) (terminator s)) 4
     (cond (eqb (c .offset) (terminator s)) (gives end)
-    (then (element s (c .offset)) λ e. gives (yield e)))))
+    (yielding s (c .offset)))))
 
 -- "a refusal or an end sets the mark and keeps the offset; an ended cursor stays ended"
 abbrev pub after : Cursor → Answer Step → Cursor
 after c (gives (yield e)) = cursor (past e) false
 after c (gives end) = cursor (c .offset) true
 after c (refuses n p) = cursor (c .offset) true
+
+-- the key that a step yields, as bytes of the slice; none where it yields nothing
+abbrev pub keyOf : List ℕ → Answer Step → List ℕ
+keyOf s (gives (yield e)) = bytes s (e .key)
+keyOf s (gives end) = []
+keyOf s (refuses n p) = []
+
+unfoldable pub keyAt : List ℕ → Cursor → List ℕ
+keyAt s c = keyOf s (step s c)
 
 -- iteration: the elements that steps yield one after the other, and how they end: at the terminator, or refused
 pub data Iteration : Type 0 where

@@ -1,6 +1,6 @@
 -- Values: what a framed element holds, and reading at a place (document 01, "Values").
 use Prim.Native.Nat.{ℕ, _+_, _-_}
-use mathlib.Core.List.{List}
+use mathlib.Core.List.{List, []}
 use mathlib.Core.Bool.{Bool, false, cond, _&&_}
 use lib.ListN.{length, getD, drop}
 use lib.Dec.{leb, ltb, eqb}
@@ -40,6 +40,13 @@ bool v =
     then (inFront 1 (λ w. getD w 0 0) v) λ b.
     unless (leb b 1) 11 (gives (eqb b 1))
 
+-- "increment, then seconds, both u32"
+unfoldable pub timestampOf : List ℕ → Answer (ℕ × ℕ)
+timestampOf v =
+    then (inFront 4 le32 v) λ increment.
+    then (inFront 4 le32 (drop 4 v)) λ seconds.
+    gives (increment, seconds)
+
 -- "text must be UTF-8 (6)"
 unfoldable pub text : List ℕ → Part → Answer Part
 text s t = unless (utf8 (bytes s t)) 6 (gives t)
@@ -64,17 +71,14 @@ scopeValue v p =
     (then (admitted (drop (4 + n) v)) λ _.
     gives (codeWithScope (part (p .offset + 8) (n - 5)) (trim (4 + n) 0 p)))))
 
--- the part p of s holds a value of this type. A text lies "without length and final zero", documents and arrays are "handed back whole",
--- a timestamp is "increment, then seconds"
+-- the part p of s holds a value of this type. A text lies "without length and final zero", documents and arrays are "handed back whole"
 unfoldable pub content : List ℕ → Part → ElementType → Answer Value
 content s p Boolean = asLeaf boolean (bool (bytes s p))
 content s p Int32 = asLeaf int32 (inFront 4 i32 (bytes s p))
 content s p Double = asLeaf double (inFront 8 le64 (bytes s p))
 content s p Int64 = asLeaf int64 (inFront 8 i64 (bytes s p))
 content s p DateTime = asLeaf dateTime (inFront 8 i64 (bytes s p))
-content s p Timestamp =
-    then (inFront 4 le32 (bytes s p)) λ increment.
-    asLeaf (timestamp increment) (inFront 4 le32 (drop 4 (bytes s p)))
+content s p Timestamp = asLeaf (λ t. timestamp (t .0) (t .1)) (timestampOf (bytes s p))
 content s p ObjectId = gives (leaf (objectId p))
 content s p Decimal128 = gives (leaf (decimal128 p))
 content s p Null = gives (leaf null)
@@ -93,14 +97,71 @@ content s p RegularExpression =
     gives (leaf (regex (part (p .offset) (r .0 .size)) (part (p .offset + r .1 .offset) (r .1 .size))))
 content s p JavaScriptCodeWithScope = scopeValue (bytes s p) p
 
--- the value of an element that a step yields
+-- the value of this tag in a part of the slice. A part that a step yields fits; another "runs past the slice" (9)
+unfoldable pub valueIn : List ℕ → ℕ → Part → Answer Value
+valueIn s tag p =
+    unless (leb (p .offset + p .size) (length s)) 9
+    (then (typeOf tag) λ t.
+    content s p t)
+
 unfoldable pub valueOf : List ℕ → Element → Answer Value
-valueOf s e = at (e .place) (then (typeOf (e .tag)) λ t. content s (e .value) t)
+valueOf s e = at (e .place) (valueIn s (e .tag) (e .value))
+
+-- "value of another type than asked" 17
+abbrev pub ofTag : {A : Type 0} → Element → ℕ → A → Answer A
+ofTag e tag a = at (e .place) (unless (eqb (e .tag) tag) 17 (gives a))
 
 -- "a value read takes a document and a place, steps there first, then reads"; "place is the terminator" 16
-abbrev pub reading : List ℕ → ℕ → Step → Answer Value
-reading s place (yield e) = valueOf s e
-reading s place end = refuses 16 place
+abbrev pub reading : {A : Type 0} → ℕ → (Element → Answer A) → Step → Answer A
+reading place reads (yield e) = reads e
+reading place reads end = refuses 16 place
 
 unfoldable pub readAt : List ℕ → ℕ → Answer Value
-readAt s place = then (step s (cursor place false)) (reading s place)
+readAt s place = then (step s (cursor place false)) (reading place (valueOf s))
+
+-- the same, of a value that must have this tag: "the value's refusal, then 17"
+unfoldable pub readWith : List ℕ → ℕ → ℕ → Answer Value
+readWith s place tag = then (step s (cursor place false)) (reading place λ e. then (valueOf s e) (ofTag e tag))
+
+-- the parts of a value that a call can hand back, first and second in the order in which they lie; a number has none
+abbrev pub none : Part
+none = part 0 0
+
+unfoldable pub partsOf : Value → Part × Part
+partsOf (leaf (boolean b)) = (none, none)
+partsOf (leaf (int32 n)) = (none, none)
+partsOf (leaf (int64 n)) = (none, none)
+partsOf (leaf (dateTime n)) = (none, none)
+partsOf (leaf (double b)) = (none, none)
+partsOf (leaf (timestamp i n)) = (none, none)
+partsOf (leaf null) = (none, none)
+partsOf (leaf undefined) = (none, none)
+partsOf (leaf minKey) = (none, none)
+partsOf (leaf maxKey) = (none, none)
+partsOf (leaf (objectId p)) = (p, none)
+partsOf (leaf (decimal128 p)) = (p, none)
+partsOf (leaf (string p)) = (p, none)
+partsOf (leaf (code p)) = (p, none)
+partsOf (leaf (symbol p)) = (p, none)
+partsOf (leaf (binary subtype p)) = (p, none)
+partsOf (leaf (dbPointer namespace id)) = (namespace, id)
+partsOf (leaf (regex pattern options)) = (pattern, options)
+partsOf (document p) = (p, none)
+partsOf (array p) = (p, none)
+partsOf (codeWithScope c scope) = (c, scope)
+
+pub data Which : Type 0 where
+  first second : Which
+
+abbrev pub partOf : Which → Value → Part
+partOf first v = partsOf v .0
+partOf second v = partsOf v .1
+
+-- "a call that hands back a part has a twin [..]; where the twin refuses, the part is empty"
+abbrev pub handed : List ℕ → Answer Part → List ℕ
+handed s (gives p) = bytes s p
+handed s (refuses n p) = []
+
+-- the twin is `readWith`
+unfoldable pub partAt : List ℕ → ℕ → ℕ → Which → List ℕ
+partAt s place tag w = handed s (then (readWith s place tag) λ v. gives (partOf w v))

@@ -1,9 +1,12 @@
 -- What an answer that gives says of the tests before it. Assumes nothing.
-use Prim.Native.Nat.{ℕ}
+use Prim.Native.Nat.{ℕ, _-_}
 use mathlib.Core.Path.{_≡_, refl, ap, sym, _∙_}
+use mathlib.Core.List.{List}
 use mathlib.Core.Bool.{Bool, true, false}
+use lib.ListN.{length, take, drop}
 use native.Mathlib.Omega.{arith}
 use Rattle.bson.specs.Answer.{Answer, gives, refuses, then, unless, at}
+use Rattle.laws.proofs.Common.{rest-part}
 
 pub never : {A P : Type 0} {n p : ℕ} {a : A} → refuses n p ≡ gives a → P
 never e = let z : _≡_ {A = ℕ} 0 1 = cc in let w : ⊥ = omega arith in absurd w
@@ -37,3 +40,8 @@ then-same (refuses n p) f g h = refl
 -- what a call answers, by the case that it turned out to be
 pub answered : {E A : Type 0} (said : E → Answer A) {r x : E} {a : Answer A} → said r ≡ a → r ≡ x → a ≡ said x
 answered said e q = sym e ∙ ap said q
+
+-- the same of a call on `&v[a..]`
+pub rest-answered : {E A : Type 0} (said : E → Answer A) (f : List ℕ → Answer A) (v : List ℕ) (a : ℕ) {r x : E}
+    → said r ≡ f (take (length v - a) (drop a v)) → r ≡ x → f (drop a v) ≡ said x
+rest-answered said f v a e q = ap f (sym (rest-part v a)) ∙ answered said e q

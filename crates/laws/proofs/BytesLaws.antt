@@ -1,14 +1,15 @@
--- Equal bytes, byte by byte. Assumes nothing.
-use Prim.Native.Nat.{ℕ, suc, _+_, _<_, _≤_}
-use mathlib.Core.Path.{_≡_, refl, ap, sym}
+-- Equal bytes, byte by byte, and the bytes of a part. Assumes nothing.
+use Prim.Native.Nat.{ℕ, suc, _+_, _-_, _<_, _≤_}
+use mathlib.Core.Path.{_≡_, refl, ap, sym, _∙_}
 use mathlib.Core.List.{List, [], _∷_}
 use mathlib.Core.Bool.{true, false, true≢false}
 use native.Mathlib.Numerals.{add-one}
-use lib.ListN.{length, getD, drop, drop-of-length-le}
-use lib.Seq.{drop-cons}
+use native.Mathlib.Omega.{arith}
+use lib.ListN.{length, getD, take, drop, drop-of-length-le, length-take, length-drop}
+use lib.Seq.{drop-cons, length-take-le, take-add, drop-at, drop-drop}
 use lib.Dec.{eqb}
 use borrow.Author.Tests.{eq-eqb, ne-eqb, eqb-true}
-use Rattle.bson.specs.Bytes.{same}
+use Rattle.bson.specs.Bytes.{Part, bytes, trim, same}
 use Rattle.laws.proofs.Common.{split}
 
 pub same-length : (a b : List ℕ) → (length a ≡ length b → ⊥) → same a b ≡ false
@@ -35,3 +36,21 @@ module _ (a b : List ℕ) (i : ℕ) (p : i < length a) (q : i < length b) where
 
 pub same-end : (a b : List ℕ) (i : ℕ) → length a ≤ i → length b ≤ i → same (drop i a) (drop i b) ≡ true
 same-end a b i p q = rw (drop-of-length-le a p, drop-of-length-le b q)
+
+pub bytes-length : (s : List ℕ) (p : Part) → p .offset + p .size ≤ length s → length (bytes s p) ≡ p .size
+unfolding bytes
+bytes-length s p h = simp (length-take, length-drop) (omega arith)
+
+-- a part without its front is the rest of its bytes
+pub bytes-trim : (s : List ℕ) (p : Part) (front : ℕ) → p .offset + p .size ≤ length s → front ≤ p .size
+    → bytes s (trim front 0 p) ≡ drop front (bytes s p)
+unfolding bytes
+bytes-trim s p front h k =
+    let l = drop (p .offset) s in
+    let m = p .size - front in
+    let n : p .size ≡ front + m = omega arith in
+    let j : front ≤ length l = omega (arith, length-drop (p .offset) s) in
+    let d : drop front (take (front + m) l) ≡ take m (drop front l) =
+    ap (drop front) (take-add front m l) ∙ drop-at (take front l) (take m (drop front l)) front (length-take-le front l j) in
+    let i : p .size - (front + 0) ≡ m = omega arith in
+    rw (i, ← drop-drop front (p .offset) s) (sym (ap (λ (x : ℕ). drop front (take x l)) n ∙ d))

@@ -19,6 +19,10 @@ split false t f = f refl
 pub rest-part : (s : List ℕ) (a : ℕ) → take (length s - a) (drop a s) ≡ drop a s
 rest-part s a = take-all (length s - a) (drop a s) (omega (arith, length-drop a s))
 
+pub both-hold : (a b : Bool) → a && b ≡ true → (a ≡ true) × (b ≡ true)
+both-hold true b e = (refl, e)
+both-hold false b e = let z : _≡_ {A = ℕ} 0 1 = cc in absurd (omega arith)
+
 pub both-left : (a b : Bool) → T (a && b) → T a
 both-left true b t = tt
 both-left false b t = t

@@ -5,6 +5,9 @@ pub mod Common
 pub mod CstringLaws
 pub mod Determined
 pub mod FramingLaws
+pub mod LookupLaws
+pub mod OpenLaws
 pub mod StepLaws
+pub mod AdvanceLaws
 pub mod TagLaws
 pub mod Utf8Laws

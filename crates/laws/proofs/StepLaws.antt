@@ -18,7 +18,7 @@ use Rattle.bson.specs.Step.{Iteration, ended, broken, more, onward, iterateFor,
 use Rattle.laws.proofs.AnswerLaws.{never, gives-injective, unless-gives, then-gives, at-gives}
 use Rattle.laws.proofs.FramingLaws.{value-size-fits}
 use Rattle.laws.proofs.BytesLaws.{same-eq}
-use Rattle.laws.proofs.Common.{split}
+use Rattle.laws.proofs.Common.{split, both-hold}
 use Rattle.laws.proofs.CstringLaws.{before-least, cstring-below, cstring-valid}
 
 pub admitted-says : (s : List ℕ) (n : ℕ) → admitted s ≡ gives n → (5 ≤ length s) × (n ≡ length s) × (getD s (terminator s) 0 ≡ 0)
@@ -44,14 +44,23 @@ pub record Yields (s : List ℕ) (c : Cursor) (e : Element) : Type 0 where
   pub key-is : cstring (drop (c .offset + 1) s) ≡ gives (e .key .size)
   pub value-is : valueSize (e .tag) (drop (e .value .offset) s) ≡ gives (e .value .size)
 
-both : (a b : Bool) → a && b ≡ true → (a ≡ true) × (b ≡ true)
-both true b e = (refl, e)
-both false b e = let z : _≡_ {A = ℕ} 0 1 = cc in absurd (omega arith)
-
 -- a test that answers end did not hold
 not-end : (b : Bool) (x : Answer Step) (e : Element) → cond b (gives end) x ≡ gives (yield e) → (b ≡ false) × (x ≡ gives (yield e))
 not-end true x e h = let z : _≡_ {A = ℕ} 0 1 = cc in absurd (omega arith)
 not-end false x e h = (refl, h)
+
+-- a key and a value that are framed end inside the slice
+framed-inside : (s : List ℕ) (p k tag n : ℕ) → cstring (drop (p + 1) s) ≡ gives k → valueSize tag (drop (p + 1 + k + 1) s) ≡ gives n
+    → p + 1 + k + 1 + n ≤ length s
+framed-inside s p k tag n key value =
+    omega (arith, cstring-below _ k key, length-drop (p + 1) s, value-size-fits tag _ n value, length-drop (p + 1 + k + 1) s)
+
+pub element-inside : (s : List ℕ) (p : ℕ) (e : Element) → element s p ≡ gives e → past e ≤ length s
+unfolding element
+element-inside s p e x =
+    let (k, key, x1) = then-gives (cstring (drop (p + 1) s)) _ x in
+    let (n, value, x2) = then-gives (valueSize (getD s p 0) (drop (p + 1 + k + 1) s)) _ x1 in
+    rw (← gives-injective x2) (framed-inside s p k _ n key value)
 
 module _ (s : List ℕ) (c : Cursor) (e : Element) where
   element-yields : admitted s ≡ gives (length s) → c .ended ≡ false → 4 ≤ c .offset → c .offset < terminator s
@@ -72,7 +81,7 @@ module _ (s : List ℕ) (c : Cursor) (e : Element) where
         key-at = refl;
         value-at = refl;
         wide = omega arith;
-        inside = omega (arith, cstring-below _ k key, length-drop (p + 1) s, value-size-fits _ _ n value, length-drop (p + 1 + k + 1) s);
+        inside = framed-inside s p k _ n key value;
         key-is = key;
         value-is = value;
       })
@@ -86,7 +95,7 @@ module _ (s : List ℕ) (c : Cursor) (e : Element) where
       let (f, x4) = not-end (eqb (c .offset) (terminator s)) _ e x3 in
       let (d, x5, y) = then-gives (element s (c .offset)) _ x4 in
       let i : d ≡ e = cc (gives-injective y) in
-      let (low, high) = both (leb 4 (c .offset)) (leb (c .offset) (terminator s)) t in
+      let (low, high) = both-hold (leb 4 (c .offset)) (leb (c .offset) (terminator s)) t in
       let l : 4 ≤ c .offset = leb-true 4 (c .offset) low in
       let h : c .offset < terminator s = omega (arith, leb-true (c .offset) (terminator s) high, eqb-false (c .offset) (terminator s) f) in
       element-yields (a ∙ ap gives (admitted-says s n a .1)) g l h (x5 ∙ ap gives i)

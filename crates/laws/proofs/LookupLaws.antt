@@ -1,0 +1,112 @@
+-- Lookup goes from step to step: what each answer of the step at an offset means for the search from there; and a typed getter gives
+-- the number of the value found. Assumes nothing.
+use Prim.Native.Nat.{ℕ, _+_}
+use mathlib.Core.Path.{_≡_, refl, sym, ap, subst, _∙_}
+use mathlib.Core.List.{List}
+use mathlib.Core.Bool.{Bool, true, false}
+use lib.IntN.{ℤ}
+use lib.ListN.{length}
+use lib.Dec.{leb, eqb}
+use borrow.Author.Tests.{eqb-true}
+use Rattle.bson.specs.Answer.{Answer, gives, refuses, at}
+use Rattle.bson.specs.Bytes.{le64, i32, i64, Part, bytes, same}
+use Rattle.bson.specs.Tags.{ElementType, Boolean, Int32, Double, Int64, DateTime, Timestamp, tags, rowOf, typeOf}
+use Rattle.bson.specs.Framing.{inFront}
+use Rattle.bson.specs.Step.{admitted, cursor, Element, past, yield, end, step, Iteration, ended, broken, more, onward, iterate}
+use Rattle.bson.specs.Value.{Leaf, leaf, boolean, int32, int64, dateTime, double, timestamp, asLeaf, bool, timestampOf, content, valueIn, valueOf}
+use Rattle.bson.specs.Lookup.{Found, found, first, get, getWith, typed}
+use Rattle.laws.proofs.AnswerLaws.{never, gives-injective, unless-gives, then-gives, at-gives}
+use Rattle.laws.proofs.Common.{split}
+use Rattle.laws.proofs.AdvanceLaws.{step-ends}
+use Rattle.laws.proofs.StepLaws.{iterate-eq}
+
+-- the search from an offset on
+abbrev pub search-from : List ℕ → List ℕ → ℕ → Answer Found
+search-from s key offset = first s key (iterate s offset)
+
+module _ (s key : List ℕ) (offset : ℕ) where
+  searched : search-from s key offset ≡ first s key (onward (step s (cursor offset false)) (iterate s))
+  searched = ap (first s key) (iterate-eq s offset)
+
+  pub search-ends : step s (cursor offset false) ≡ gives end → search-from s key offset ≡ refuses 16 offset
+  unfolding step
+  search-ends e =
+      let (m, a, h) = then-gives (admitted s) _ e in
+      searched ∙ rw (e, step-ends s m a offset .0 e)
+
+  pub search-refused : (n p : ℕ) → step s (cursor offset false) ≡ refuses n p → search-from s key offset ≡ refuses n p
+  search-refused n p e = searched ∙ rw e
+
+  module _ (e : Element) (y : step s (cursor offset false) ≡ gives (yield e)) where
+    pub search-found : same key (bytes s (e .key)) ≡ true → search-from s key offset ≡ found s e
+    search-found k = searched ∙ rw (y, k)
+
+    pub search-onward : same key (bytes s (e .key)) ≡ false → search-from s key offset ≡ search-from s key (past e)
+    search-onward k = searched ∙ rw (y, k)
+
+-- a typed getter gives the number in the framed bytes of what the typed lookup finds
+pub typed-is : {A : Type 0} (number : List ℕ → Answer A) (s key : List ℕ) (tag : ℕ) (f : Found) (v : List ℕ) (x : Answer A)
+    → getWith s key tag ≡ gives f → v ≡ bytes s (f .element .value) → number v ≡ x → at (f .element .place) x ≡ typed number s key tag
+typed-is number s key tag f v x g e q = rw (g, ← e, q)
+
+-- what a search finds was read
+first-reads : (s key : List ℕ) (i : Iteration) (f : Found) → first s key i ≡ gives f → valueOf s (f .element) ≡ gives (f .value)
+unfolding found
+first-reads s key ended f x = never x
+first-reads s key (broken n p) f x = never x
+first-reads s key (more e rest) f x =
+    split (same key (bytes s (e .key)))
+    (λ t. let (v, q, h) = then-gives (valueOf s e) _ (rw t at x) in
+    subst (λ (g : Found). valueOf s (g .element) ≡ gives (g .value)) (gives-injective h) q)
+    (λ t. first-reads s key rest f (rw t at x))
+
+-- what a typed lookup finds was read, and has the tag
+pub get-with-says : (s key : List ℕ) (tag : ℕ) (f : Found) → getWith s key tag ≡ gives f
+    → (valueOf s (f .element) ≡ gives (f .value)) × (f .element .tag ≡ tag)
+unfolding getWith get
+get-with-says s key tag f x =
+    let (g, q, h) = then-gives (first s key (iterate s 4)) _ x in
+    let (t, h1) = unless-gives (eqb (g .element .tag) tag) 17 _ (at-gives (g .element .place) _ h) in
+    let i : g ≡ f = gives-injective h1 in
+    rw (← i) (first-reads s key (iterate s 4) g q, eqb-true _ _ t)
+
+-- where the typed lookup finds, the typed getter gives the number of the value found
+pub typed-reads : {A : Type 0} (number : List ℕ → Answer A) (holds : A → Leaf) (type : ElementType) (s key : List ℕ) (tag : ℕ) (f : Found)
+    → typeOf tag ≡ gives type → ((p : Part) → content s p type ≡ asLeaf holds (number (bytes s p)))
+    → getWith s key tag ≡ gives f → (a : A) × (typed number s key tag ≡ gives a) × (f .value ≡ leaf (holds a))
+unfolding valueOf valueIn
+typed-reads number holds type s key tag f y r g =
+    let p = f .element .value in
+    let (x, t) = get-with-says s key tag f g in
+    let (u, x1) = unless-gives (leb (p .offset + p .size) (length s)) 9 _ (at-gives (f .element .place) _ x) in
+    let (k, q, x2) = then-gives (typeOf (f .element .tag)) _ x1 in
+    let i : k ≡ type = gives-injective (sym q ∙ ap typeOf t ∙ y) in
+    let h : asLeaf holds (number (bytes s p)) ≡ gives (f .value) = sym (r p) ∙ ap (content s p) (sym i) ∙ x2 in
+    let (a, z, w) = then-gives (number (bytes s p)) _ h in
+    (a, sym (typed-is number s key tag f (bytes s p) (gives a) g refl z), sym (gives-injective w))
+
+module _ (s key : List ℕ) (f : Found) where
+  pub get-f64-reads : getWith s key 0x01 ≡ gives f → (n : ℕ) × (typed (inFront 8 le64) s key 0x01 ≡ gives n) × (f .value ≡ leaf (double n))
+  unfolding rowOf tags content
+  get-f64-reads = typed-reads (inFront 8 le64) double Double s key 0x01 f refl (λ p. refl)
+
+  pub get-bool-reads : getWith s key 0x08 ≡ gives f → (n : Bool) × (typed bool s key 0x08 ≡ gives n) × (f .value ≡ leaf (boolean n))
+  unfolding rowOf tags content
+  get-bool-reads = typed-reads bool boolean Boolean s key 0x08 f refl (λ p. refl)
+
+  pub get-datetime-reads : getWith s key 0x09 ≡ gives f → (n : ℤ) × (typed (inFront 8 i64) s key 0x09 ≡ gives n) × (f .value ≡ leaf (dateTime n))
+  unfolding rowOf tags content
+  get-datetime-reads = typed-reads (inFront 8 i64) dateTime DateTime s key 0x09 f refl (λ p. refl)
+
+  pub get-i32-reads : getWith s key 0x10 ≡ gives f → (n : ℤ) × (typed (inFront 4 i32) s key 0x10 ≡ gives n) × (f .value ≡ leaf (int32 n))
+  unfolding rowOf tags content
+  get-i32-reads = typed-reads (inFront 4 i32) int32 Int32 s key 0x10 f refl (λ p. refl)
+
+  pub get-i64-reads : getWith s key 0x12 ≡ gives f → (n : ℤ) × (typed (inFront 8 i64) s key 0x12 ≡ gives n) × (f .value ≡ leaf (int64 n))
+  unfolding rowOf tags content
+  get-i64-reads = typed-reads (inFront 8 i64) int64 Int64 s key 0x12 f refl (λ p. refl)
+
+  pub get-timestamp-reads : getWith s key 0x11 ≡ gives f
+      → (t : ℕ × ℕ) × (typed timestampOf s key 0x11 ≡ gives t) × (f .value ≡ leaf (timestamp (t .0) (t .1)))
+  unfolding rowOf tags content
+  get-timestamp-reads = typed-reads timestampOf (λ t. timestamp (t .0) (t .1)) Timestamp s key 0x11 f refl (λ p. refl)

@@ -1,0 +1,191 @@
+-- What a value opens: it lies inside the value, and is a document by itself. Assumes nothing.
+use Prim.Native.Nat.{ℕ, _+_, _-_, _≤_, _<_}
+use mathlib.Core.Path.{_≡_, refl, sym, ap, subst, _∙_}
+use mathlib.Core.List.{List}
+use mathlib.Core.Bool.{_&&_}
+use native.Mathlib.Omega.{arith}
+use lib.ListN.{length, getD, take, drop, length-drop}
+use lib.Seq.{length-take-le, getD-take}
+use lib.Dec.{leb, ltb, eqb}
+use borrow.Author.Tests.{ltb-true, le-leb, lt-ltb, eq-eqb}
+use Rattle.bson.specs.Answer.{Answer, gives}
+use Rattle.bson.specs.Bytes.{le32, le64, i32, i64, Part, part, bytes, trim}
+use Rattle.bson.specs.Utf8.{utf8}
+use Rattle.bson.specs.Tags
+use Rattle.bson.specs.Framing.{inFront, stringSize, documentSize, patternOptions, framed, valueSize}
+use Rattle.bson.specs.Step.{admitted, Cursor, Element, past}
+use Rattle.bson.specs.Value
+use Rattle.laws.proofs.AnswerLaws.{gives-injective, unless-gives, then-gives, then-from, at-gives}
+use Rattle.laws.proofs.BytesLaws.{bytes-length, bytes-trim}
+use Rattle.laws.proofs.Common.{split}
+use Rattle.laws.proofs.FramingLaws.{document-is, document-least}
+use Rattle.laws.proofs.TagLaws.{sizeFor, type-sized}
+use Rattle.laws.proofs.StepLaws.{admitted-says, Yields}
+use Tags.{ElementType, Boolean, Int32, Double, Int64, DateTime, Timestamp, ObjectId, Decimal128, Null, Undefined, MinKey, MaxKey}
+use Tags.{String, JavaScriptCode, Symbol, DbPointer, EmbeddedDocument, Array, Binary, RegularExpression, JavaScriptCodeWithScope, typeOf}
+use Value.{Leaf, Value, leaf, document, array, codeWithScope, asLeaf, bool, timestampOf, text, binaryValue, scopeValue, content, valueIn, valueOf}
+
+-- a claim that every leaf meets holds of a value where it holds of what the value opens
+module _ (P : Value → Type 0) (leafy : (x : Leaf) → P (leaf x)) (v : Value) where
+  leaf-case : {x : Leaf} → gives (leaf x) ≡ gives v → P v
+  leaf-case e = subst P (gives-injective e) (leafy _)
+
+  as-leaf-case : {A : Type 0} (f : A → Leaf) (a : Answer A) → asLeaf f a ≡ gives v → P v
+  as-leaf-case f a e = let (x, q, h) = then-gives a _ e in leaf-case h
+
+  binary-case : (b : List ℕ) (w : Part) → binaryValue b w ≡ gives v → P v
+  unfolding binaryValue
+  binary-case b w e =
+      split (eqb (getD b 4 0) 2)
+      (λ t. leaf-case (unless-gives (leb 9 (length b) && eqb (le32 (drop 5 b)) (length b - 9)) 12 _ (rw t at e) .1))
+      (λ t. leaf-case (rw t at e))
+
+  module _ (s : List ℕ) (w : Part)
+      (of-document : documentSize (drop (w .offset) s) ≡ gives (w .size) → P (document w))
+      (of-array : documentSize (drop (w .offset) s) ≡ gives (w .size) → P (array w))
+      (of-scope : scopeValue (bytes s w) w ≡ gives v → P v) where
+    content-case : (t : ElementType) → framed (sizeFor t) (drop (w .offset) s) ≡ gives (w .size) → content s w t ≡ gives v → P v
+    unfolding content framed
+    content-case Boolean f e = as-leaf-case _ (bool (bytes s w)) e
+    content-case Int32 f e = as-leaf-case _ (inFront 4 i32 (bytes s w)) e
+    content-case Double f e = as-leaf-case _ (inFront 8 le64 (bytes s w)) e
+    content-case Int64 f e = as-leaf-case _ (inFront 8 i64 (bytes s w)) e
+    content-case DateTime f e = as-leaf-case _ (inFront 8 i64 (bytes s w)) e
+    content-case Timestamp f e = as-leaf-case _ (timestampOf (bytes s w)) e
+    content-case ObjectId f e = leaf-case e
+    content-case Decimal128 f e = leaf-case e
+    content-case Null f e = leaf-case e
+    content-case Undefined f e = leaf-case e
+    content-case MinKey f e = leaf-case e
+    content-case MaxKey f e = leaf-case e
+    content-case String f e = as-leaf-case _ (text s (trim 4 1 w)) e
+    content-case JavaScriptCode f e = as-leaf-case _ (text s (trim 4 1 w)) e
+    content-case Symbol f e = as-leaf-case _ (text s (trim 4 1 w)) e
+    content-case DbPointer f e = as-leaf-case _ (text s (trim 4 13 w)) e
+    content-case EmbeddedDocument f e = subst P (gives-injective e) (of-document f)
+    content-case Array f e = subst P (gives-injective e) (of-array f)
+    content-case Binary f e = binary-case (bytes s w) w e
+    content-case RegularExpression f e = let (r, q, g) = then-gives (patternOptions (bytes s w)) _ e in leaf-case g
+    content-case JavaScriptCodeWithScope f e = of-scope e
+
+-- what a scope that is read says: where it starts, and that it is admitted
+pub record Scoped (b : List ℕ) (w : Part) (v : Value) : Type 0 where
+  pub start : ℕ
+  pub length-of : ℕ
+  pub code : Part
+  pub before : start < length b
+  pub admits : admitted (drop start b) ≡ gives length-of
+  pub is : codeWithScope code (trim start 0 w) ≡ v
+
+scope-says : (b : List ℕ) (w : Part) (v : Value) → scopeValue b w ≡ gives v → Scoped b w v
+unfolding scopeValue
+scope-says b w v e =
+    let (t, e1) = unless-gives (leb 14 (length b)) 12 _ e in
+    let (n, q, e2) = then-gives (stringSize (drop 4 b)) _ e1 in
+    let (u, e3) = unless-gives (utf8 (bytes b (part 8 (n - 5)))) 6 _ e2 in
+    let (l, e4) = unless-gives (ltb (4 + n) (length b)) 12 _ e3 in
+    let (k, a, e5) = then-gives (admitted (drop (4 + n) b)) _ e4 in
+    record { start = 4 + n; length-of = k; code = _; before = ltb-true (4 + n) (length b) l; admits = a; is = gives-injective e5 }
+
+-- a document inside a value
+pub record Opens (whole inner : Part) : Type 0 where
+  pub from : whole .offset ≤ inner .offset
+  pub to : inner .offset + inner .size ≤ whole .offset + whole .size
+  pub least : 5 ≤ inner .size
+
+-- what a value opens lies inside the part that holds the value
+abbrev pub Within : Part → Value → Type 0
+Within w (leaf x) = record {}
+Within w (document p) = Opens w p
+Within w (array p) = Opens w p
+Within w (codeWithScope c p) = Opens w p
+
+scope-within : (b : List ℕ) (w : Part) (v : Value) → length b ≡ w .size → scopeValue b w ≡ gives v → Within w v
+scope-within b w v h e =
+    let r = scope-says b w v e in
+    let i = admitted-says (drop (r .start) b) (r .length-of) (r .admits) in
+    let o : Opens w (trim (r .start) 0 w) = record {
+      from = omega arith;
+      to = omega arith;
+      least = omega (arith, length-drop (r .start) b);
+    } in
+    subst (Within w) (r .is) o
+
+whole-opens : (b : List ℕ) (w : Part) → documentSize b ≡ gives (w .size) → Opens w w
+whole-opens b w f = record { from = omega arith; to = omega arith; least = document-least b (w .size) f }
+
+-- the four bytes in front are those of the whole
+le32-take : (n : ℕ) (v : List ℕ) → 4 ≤ n → le32 (take n v) ≡ le32 v
+unfolding le32
+le32-take n v h =
+    let a : 0 < n = omega arith in
+    let b : 1 < n = omega arith in
+    let c : 2 < n = omega arith in
+    let d : 3 < n = omega arith in
+    rw (getD-take n v 0 0 a, getD-take n v 1 0 b, getD-take n v 2 0 c, getD-take n v 3 0 d)
+
+-- a document that framing gives is admitted
+framed-admitted : (v : List ℕ) (n : ℕ) → documentSize v ≡ gives n → admitted (take n v) ≡ gives n
+unfolding admitted
+framed-admitted v n e =
+    let d = document-is v n e in
+    let l : length (take n v) ≡ n = length-take-le n v (d .3) in
+    let i : n - 1 < n = omega arith in
+    rw (
+      l,
+      le-leb 5 n (d .1),
+      le32-take n v (omega arith),
+      d .0,
+      lt-ltb n 2147483648 (d .2),
+      eq-eqb n n refl,
+      getD-take n v (n - 1) 0 i,
+      d .4,
+    )
+
+-- what a value opens is admitted, with just its size
+abbrev pub Admits : List ℕ → Value → Type 0
+Admits s (leaf x) = record {}
+Admits s (document p) = admitted (bytes s p) ≡ gives (p .size)
+Admits s (array p) = admitted (bytes s p) ≡ gives (p .size)
+Admits s (codeWithScope c p) = admitted (bytes s p) ≡ gives (p .size)
+
+whole-admits : (s : List ℕ) (w : Part) → documentSize (drop (w .offset) s) ≡ gives (w .size) → admitted (bytes s w) ≡ gives (w .size)
+unfolding bytes
+whole-admits s w f = framed-admitted (drop (w .offset) s) (w .size) f
+
+scope-admits : (s : List ℕ) (w : Part) (v : Value) → w .offset + w .size ≤ length s → scopeValue (bytes s w) w ≡ gives v → Admits s v
+scope-admits s w v h e =
+    let r = scope-says (bytes s w) w v e in
+    let i = bytes-length s w h in
+    let j : r .start ≤ w .size = omega arith in
+    let z : r .length-of ≡ w .size - (r .start + 0) =
+    omega (arith, admitted-says (drop (r .start) (bytes s w)) (r .length-of) (r .admits), length-drop (r .start) (bytes s w)) in
+    subst (Admits s) (r .is) (ap admitted (bytes-trim s w (r .start) h j) ∙ r .admits ∙ ap gives z)
+
+module _ (s : List ℕ) (c : Cursor) (e : Element) (y : Yields s c e) (v : Value) where
+  value-case : (P : Value → Type 0) → ((x : Leaf) → P (leaf x))
+      → (documentSize (drop (e .value .offset) s) ≡ gives (e .value .size) → P (document (e .value)))
+      → (documentSize (drop (e .value .offset) s) ≡ gives (e .value .size) → P (array (e .value)))
+      → (scopeValue (bytes s (e .value)) (e .value) ≡ gives v → P v)
+      → valueOf s e ≡ gives v → P v
+  unfolding valueOf valueIn valueSize
+  value-case P l d a z x =
+      let (u, x1) = unless-gives (leb (past e) (length s)) 9 _ (at-gives (e .place) _ x) in
+      let (t, q, h) = then-gives (typeOf (e .tag)) _ x1 in
+      content-case P l v s (e .value) d a z t (sym (then-from _ _ (type-sized (e .tag) t q)) ∙ y .value-is) h
+
+  -- what the value of a yielded element opens lies inside it
+  pub value-within : valueOf s e ≡ gives v → Within (e .value) v
+  value-within =
+      value-case (Within (e .value)) (λ x. record {}) (whole-opens _ _) (whole-opens _ _)
+      (scope-within (bytes s (e .value)) (e .value) v (bytes-length s (e .value) (y .inside)))
+
+  -- and is a document
+  pub value-admits : valueOf s e ≡ gives v → Admits s v
+  value-admits =
+      value-case (Admits s) (λ x. record {}) (whole-admits s _) (whole-admits s _) (scope-admits s (e .value) v (y .inside))
+
+-- and is shorter than the slice
+module _ (s : List ℕ) (c : Cursor) (e : Element) (y : Yields s c e) where
+  pub opens-shorter : (p : Part) → Opens (e .value) p → (length (bytes s p) ≡ p .size) × (p .size < length s)
+  opens-shorter p o = (bytes-length s p (omega arith), omega arith)
