@@ -1,23 +1,40 @@
 // Framing by a tag: how many bytes the value at the front of a part has (src/raw/iter.rs of the Rust).
 ghost use mathlib.Core.Path.{_≡_};
-ghost use Rattle.bson.specs.Framing.{regexSize, valueSize};
+ghost use Rattle.bson.specs.Framing.{patternOptions, regexSize, valueSize};
 ghost use Rattle.cstr.specs.Said.{said};
+ghost use Rattle.framing.specs.Said.{saidPatternOptions};
 use cstr::Length;
 use tags::Kind;
+
+// How many bytes a pattern and options have, each without its zero.
+pub enum PatternOptions {
+    Is { pattern: usize, options: usize },
+    Refused(u8),
+}
+
+// A pattern up to its zero, then options up to theirs: 5, 6.
+pub fn pattern_options(v: &[u8]) -> PatternOptions
+    ensures { λ r. ⌜ saidPatternOptions r ≡ patternOptions (now (v .entry)) ⌝ }
+{
+    match cstr::read_cstring(v) {
+        Length::Refused(why) => PatternOptions::Refused(why),
+        Length::Is(pattern) => {
+            let o = pattern + 1;
+            match cstr::read_cstring(&v[o..]) {
+                Length::Refused(why) => PatternOptions::Refused(why),
+                Length::Is(options) => PatternOptions::Is { pattern, options },
+            }
+        }
+    }
+}
 
 // A pattern and options, each with its zero: 5, 6.
 pub fn regex_len(v: &[u8]) -> Length
     ensures { λ r. ⌜ said r ≡ regexSize (now (v .entry)) ⌝ }
 {
-    match cstr::read_cstring(v) {
-        Length::Refused(why) => Length::Refused(why),
-        Length::Is(p) => {
-            let o = p + 1;
-            match cstr::read_cstring(&v[o..]) {
-                Length::Refused(why) => Length::Refused(why),
-                Length::Is(n) => Length::Is(o + (n + 1)),
-            }
-        }
+    match pattern_options(v) {
+        PatternOptions::Refused(why) => Length::Refused(why),
+        PatternOptions::Is { pattern, options } => Length::Is(pattern + 1 + (options + 1)),
     }
 }
 

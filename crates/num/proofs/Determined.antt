@@ -1,9 +1,11 @@
 -- Determined: the promise of each call allows one answer (document 01, "What every answer is bound to"). Assumes nothing.
+use Prim.Native.Nat.{ℕ}
 use mathlib.Core.Path.{_≡_, refl, sym, _∙_}
+use Rattle.bson.specs.Answer.{Answer}
 use contract.Lifetimes.{Lfts}
 use borrow.Fn.Kinds.{Dens}
 use Rattle.laws.proofs.Determined.{Determined, injective-by, unsaid}
-use Rattle.num.specs.Said.{saidUint32, saidInt32, saidInt64, saidDouble, saidBoolean}
+use Rattle.num.specs.Said.{saidUint32, saidInt32, saidInt64, saidDouble, saidBoolean, saidTimestamp}
 use Rattle.num.specs.declared.Uint32.{Uint32}
 use Rattle.num.specs.declared.Uint32.the-variants as uint32
 use Rattle.num.specs.declared.Int32.{Int32}
@@ -14,6 +16,8 @@ use Rattle.num.specs.declared.Double.{Double}
 use Rattle.num.specs.declared.Double.the-variants as double
 use Rattle.num.specs.declared.Boolean.{Boolean}
 use Rattle.num.specs.declared.Boolean.the-variants as boolean
+use Rattle.num.specs.declared.Timestamp.{Timestamp}
+use Rattle.num.specs.declared.Timestamp.the-variants as timestamp
 use Rattle.num.proofs.u32_from_slice.Reads as u32-from-slice-reads
 use Rattle.num.proofs.u32_from_slice.Kinds as u32-from-slice-kinds
 use Rattle.num.proofs.i32_from_slice.Reads as i32-from-slice-reads
@@ -24,6 +28,8 @@ use Rattle.num.proofs.f64_from_slice.Reads as f64-from-slice-reads
 use Rattle.num.proofs.f64_from_slice.Kinds as f64-from-slice-kinds
 use Rattle.num.proofs.bool_from_slice.Reads as bool-from-slice-reads
 use Rattle.num.proofs.bool_from_slice.Kinds as bool-from-slice-kinds
+use Rattle.num.proofs.timestamp_from_slice.Reads as timestamp-from-slice-reads
+use Rattle.num.proofs.timestamp_from_slice.Kinds as timestamp-from-slice-kinds
 
 uint32-again : (r : Uint32) → unsaid uint32.Is uint32.Refused (saidUint32 r) ≡ r
 uint32-again (uint32.Is x) = refl
@@ -64,3 +70,14 @@ boolean-again (boolean.Refused k) = refl
 pub bool-from-slice-determined : (κs : Lfts 1) (a : Dens κs bool-from-slice-kinds.ps) → Determined (bool-from-slice-reads.Post κs a)
 bool-from-slice-determined κs a r₁ r₂ s₁ s₂ p q =
     injective-by saidBoolean (unsaid boolean.Is boolean.Refused) boolean-again r₁ r₂ (p ∙ sym q)
+
+abbrev timestamp-unsaid : Answer (ℕ × ℕ) → Timestamp
+timestamp-unsaid = unsaid (λ t. timestamp.Is (t .0) (t .1)) timestamp.Refused
+
+timestamp-again : (r : Timestamp) → timestamp-unsaid (saidTimestamp r) ≡ r
+timestamp-again (timestamp.Is i n) = refl
+timestamp-again (timestamp.Refused k) = refl
+
+pub timestamp-from-slice-determined : (κs : Lfts 1) (a : Dens κs timestamp-from-slice-kinds.ps) → Determined (timestamp-from-slice-reads.Post κs a)
+timestamp-from-slice-determined κs a r₁ r₂ s₁ s₂ p q =
+    injective-by saidTimestamp timestamp-unsaid timestamp-again r₁ r₂ (p ∙ sym q)

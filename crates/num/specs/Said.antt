@@ -13,6 +13,8 @@ use Rattle.num.specs.declared.Double.{Double}
 use Rattle.num.specs.declared.Double.the-variants as double
 use Rattle.num.specs.declared.Boolean.{Boolean}
 use Rattle.num.specs.declared.Boolean.the-variants as boolean
+use Rattle.num.specs.declared.Timestamp.{Timestamp}
+use Rattle.num.specs.declared.Timestamp.the-variants as timestamp
 
 abbrev pub saidUint32 : Uint32 → Answer ℕ
 saidUint32 (uint32.Is n) = gives n
@@ -33,3 +35,7 @@ saidDouble (double.Refused k) = refuses k 0
 abbrev pub saidBoolean : Boolean → Answer Bool
 saidBoolean (boolean.Is b) = gives b
 saidBoolean (boolean.Refused k) = refuses k 0
+
+abbrev pub saidTimestamp : Timestamp → Answer (ℕ × ℕ)
+saidTimestamp (timestamp.Is i n) = gives (i, n)
+saidTimestamp (timestamp.Refused k) = refuses k 0

@@ -4,8 +4,8 @@ ghost use Prim.Native.Nat.{_≤_, _<_};
 ghost use lib.ListN.{length};
 ghost use Rattle.bson.specs.Bytes.{le32, le64, signed, i32, i64};
 ghost use Rattle.bson.specs.Framing.{inFront};
-ghost use Rattle.bson.specs.Value.{bool};
-ghost use Rattle.num.specs.Said.{saidUint32, saidInt32, saidInt64, saidDouble, saidBoolean};
+ghost use Rattle.bson.specs.Value.{bool, timestampOf};
+ghost use Rattle.num.specs.Said.{saidUint32, saidInt32, saidInt64, saidDouble, saidBoolean, saidTimestamp};
 
 pub enum Uint32 {
     Is(u32),
@@ -30,6 +30,11 @@ pub enum Double {
 
 pub enum Boolean {
     Is(bool),
+    Refused(u8),
+}
+
+pub enum Timestamp {
+    Is { increment: u32, seconds: u32 },
     Refused(u8),
 }
 
@@ -134,4 +139,16 @@ pub fn bool_from_slice(v: &[u8]) -> Boolean
         return Boolean::Refused(11);
     }
     Boolean::Is(v[0] == 1)
+}
+
+// The increment, then the seconds, four bytes each; refuses a slice under eight bytes with 9.
+pub fn timestamp_from_slice(v: &[u8]) -> Timestamp
+    ensures { λ r. ⌜ saidTimestamp r ≡ timestampOf (now (v .entry)) ⌝ }
+{
+    if v.len() < 8 {
+        return Timestamp::Refused(9);
+    }
+    let increment = word(v);
+    let seconds = word(&v[4..]);
+    Timestamp::Is { increment, seconds }
 }
