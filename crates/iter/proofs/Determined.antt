@@ -1,0 +1,51 @@
+-- Determined: the promise of each call allows one answer (document 01, "What every answer is bound to"). Assumes nothing.
+use mathlib.Core.Path.{_≡_, refl, sym, _∙_}
+use contract.Lifetimes.{Lfts}
+use borrow.Fn.Kinds.{Dens}
+use denote.Ref.{now}
+use Rattle.bson.specs.Answer.{Answer, gives, refuses}
+use Rattle.bson.specs.Step as paper
+use Rattle.laws.proofs.Determined.{Determined, DeterminedPart, injective-by}
+use Rattle.part.proofs.Determined.{unsaidPart}
+use Rattle.iter.specs.Said.{saidCursor, saidElement, said, behind}
+use Rattle.iter.specs.declared.Cursor.{Cursor}
+use Rattle.iter.specs.declared.Element.{Element}
+use Rattle.iter.specs.declared.Step.{Step}
+use Rattle.iter.specs.declared.Step.the-variants.{Yield, End, Refused}
+use Rattle.iter.proofs.next.Reads as next-reads
+use Rattle.iter.proofs.next.Kinds as next-kinds
+use Rattle.iter.proofs.key_at.Reads as key-at-reads
+use Rattle.iter.proofs.key_at.Kinds as key-at-kinds
+
+abbrev pub unsaidElement : paper.Element → Element
+unsaidElement e = record { place = e .place; tag = e .tag; key = unsaidPart (e .key); value = unsaidPart (e .value) }
+
+abbrev unsaidCursor : paper.Cursor → Cursor
+unsaidCursor c = record { offset = c .offset; ended = c .ended }
+
+-- an answer and the cursor behind it
+abbrev Stepped : Type 0
+Stepped = Answer paper.Step × paper.Cursor
+
+abbrev stepped : Step → Stepped
+stepped r = (said r, behind r)
+
+abbrev unstepped : Stepped → Step
+unstepped (gives (paper.yield e), c) = Yield (unsaidElement e) (unsaidCursor c)
+unstepped (gives paper.end, c) = End (unsaidCursor c)
+unstepped (refuses number place, c) = Refused number place (unsaidCursor c)
+
+again : (r : Step) → unstepped (stepped r) ≡ r
+again (Yield e c) = refl
+again (End c) = refl
+again (Refused number place c) = refl
+
+both : {A B : Type 0} {a b : A} {c d : B} → a ≡ b → c ≡ d → _≡_ {A = A × B} (a, c) (b, d)
+both e f = cc
+
+pub next-determined : (κs : Lfts 1) (a : Dens κs next-kinds.ps) → Determined (next-reads.Post κs a)
+next-determined κs a r₁ r₂ s₁ s₂ p q =
+    injective-by stepped unstepped again r₁ r₂ (both (p .0 ∙ sym (q .0)) (p .1 ∙ sym (q .1)))
+
+pub key-at-determined : (κs : Lfts 1) (a : Dens κs key-at-kinds.ps) → DeterminedPart now (key-at-reads.Post κs a)
+key-at-determined κs a r₁ r₂ s₁ s₂ p q = p ∙ sym q

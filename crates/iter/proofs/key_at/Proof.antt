@@ -1,0 +1,58 @@
+-- `iter::key_at` meets its contract: the key of what the step yields, else nothing. Assumes nothing.
+use mathlib.Core.Path.{sym, ap, _∙_}
+use Rattle.bson.specs.Step.{keyOf, keyAt}
+use Rattle.laws.proofs.AnswerLaws.{answered}
+use Rattle.iter.specs.Said.{said}
+use borrow.Author.Needs.{needs}
+use Rattle.iter.proofs.key_at.Statement.{statement}
+use Rattle.iter.proofs.key_at.Tie as tie
+
+next-requires : tie.Need-next-requires
+next-requires c κs = search needs
+
+enum-known-element : tie.Need-enum-known-element
+enum-known-element c = search needs
+
+bytes-of-requires : tie.Need-bytes-of-requires
+bytes-of-requires c κs = search needs
+
+enum-told : tie.Need-enum-told
+enum-told c = search needs
+
+slice-aggregate-result : tie.Need-slice-aggregate-result
+slice-aggregate-result c = search needs
+
+enum-told-2 : tie.Need-enum-told-2
+enum-told-2 c = search needs
+
+slice-aggregate-result-2 : tie.Need-slice-aggregate-result-2
+slice-aggregate-result-2 c = search needs
+
+returns : tie.Need-returns
+unfolding keyAt
+returns c =
+    let b = c .before .before .before in
+    rw (answered said (b .before .before .next .ensures .0) (b .element .given .1)) (c .bytes-of .ensures)
+
+returns-2 : tie.Need-returns-2
+unfolding keyAt
+returns-2 c = rw (answered said (c .before .before .before .next .ensures .0) (c .before .enum-told .given .1))
+
+returns-3 : tie.Need-returns-3
+unfolding keyAt
+returns-3 c = rw (answered said (c .before .before .before .next .ensures .0) (c .before .enum-told2 .given .1))
+
+pub key-at-spec : {M : Type 1} → statement M
+key-at-spec =
+    tie.close
+    (tie.spec
+    next-requires
+    enum-known-element
+    bytes-of-requires
+    enum-told
+    slice-aggregate-result
+    enum-told-2
+    slice-aggregate-result-2
+    returns
+    returns-2
+    returns-3)

@@ -1,0 +1,25 @@
+// A part of a slice, as an offset and a size.
+ghost use mathlib.Core.Path.{_≡_};
+ghost use Rattle.bson.specs.Bytes.{bytes};
+ghost use Rattle.part.specs.Said.{said};
+
+pub struct Part {
+    pub offset: usize,
+    pub size: usize,
+}
+
+// The bytes of a part; of one that runs past the slice, those that are there.
+pub fn bytes_of<'a>(s: &'a [u8], part: Part) -> &'a [u8]
+    ensures { λ r. ⌜ now r ≡ bytes (now (s .entry)) (said part) ⌝ }
+{
+    let offset = part.offset;
+    if s.len() < offset {
+        return &s[..0];
+    }
+    let rest = &s[offset..];
+    let size = part.size;
+    if rest.len() < size {
+        return rest;
+    }
+    &rest[..size]
+}
