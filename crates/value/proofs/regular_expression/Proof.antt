@@ -1,0 +1,47 @@
+-- `value::regular_expression` meets its contract: the two parts, from the offset on. Assumes nothing.
+use native.Mathlib.Nat.{add-assoc}
+use native.Mathlib.Omega.{arith}
+use borrow.Author.Needs.{needs}
+use Rattle.laws.proofs.AnswerLaws.{answered}
+use Rattle.laws.proofs.FramingLaws.{pattern-options-fit}
+use Rattle.framing.specs.Said.{saidPatternOptions}
+use Rattle.value.proofs.regular_expression.Statement.{statement}
+use Rattle.value.proofs.regular_expression.Tie as tie
+
+pattern-options-requires : tie.Need-pattern-options-requires
+pattern-options-requires c κs = search needs
+
+enum-known-number : tie.Need-enum-known-number
+enum-known-number c = search needs
+
+enum-known-pattern : tie.Need-enum-known-pattern
+enum-known-pattern c = search needs
+
+add-behind : tie.Need-add-behind
+add-behind c =
+    let q = answered saidPatternOptions (c .before .before .before .pattern-options .ensures) (c .before .pattern .given .1) in
+    omega (arith, pattern-options-fit _ _ q)
+
+add-behind-2 : tie.Need-add-behind-2
+add-behind-2 c =
+    let q = answered saidPatternOptions (c .before .before .before .pattern-options .ensures) (c .before .pattern .given .1) in
+    omega (arith, pattern-options-fit _ _ q)
+
+returns : tie.Need-returns
+returns c = rw (answered saidPatternOptions (c .before .before .before .pattern-options .ensures) (c .before .number .given .1))
+
+returns-2 : tie.Need-returns-2
+returns-2 c =
+    rw (answered saidPatternOptions (c .before .before .before .pattern-options .ensures) (c .before .pattern .given .1), add-assoc)
+
+pub regular-expression-spec : {M : Type 1} → statement M
+regular-expression-spec =
+    tie.close
+    (tie.spec
+    pattern-options-requires
+    enum-known-number
+    enum-known-pattern
+    add-behind
+    add-behind-2
+    returns
+    returns-2)

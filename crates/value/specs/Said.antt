@@ -1,0 +1,66 @@
+-- What the cases of a value and of an answer say on paper, and what the inner functions answer.
+use Prim.Native.Nat.{ℕ, _+_}
+use mathlib.Core.List.{List}
+use mathlib.Core.Bool.{cond}
+use lib.Dec.{eqb, ltb}
+use lib.IntN.{ℤ}
+use lib.ListN.{length, drop}
+use Rattle.bson.specs.Answer.{Answer, gives, refuses, then, unless}
+use Rattle.bson.specs.Bytes as paper
+use Rattle.bson.specs.Step.{admitted}
+use Rattle.bson.specs.Value.{Leaf, leaf, boolean, int32, int64, dateTime, double, timestamp, objectId, decimal128, string, code, symbol}
+use Rattle.bson.specs.Value.{null, undefined, minKey, maxKey, dbPointer, binary, regex, document, array, codeWithScope}
+use Rattle.bson.specs.Value as value
+use Rattle.part.specs.Said as part
+use Rattle.value.specs.declared.Value.{Value}
+use Rattle.value.specs.declared.Value.the-variants as is
+use Rattle.value.specs.declared.Parsed.{Parsed}
+use Rattle.value.specs.declared.Parsed.the-variants.{Is, Refused}
+
+abbrev pub saidValue : Value → value.Value
+saidValue (is.Double bits) = leaf (double bits)
+saidValue (is.String p) = leaf (string (part.said p))
+saidValue (is.Document p) = document (part.said p)
+saidValue (is.Array p) = array (part.said p)
+saidValue (is.Binary subtype p) = leaf (binary subtype (part.said p))
+saidValue is.Undefined = leaf undefined
+saidValue (is.ObjectId p) = leaf (objectId (part.said p))
+saidValue (is.Boolean b) = leaf (boolean b)
+saidValue (is.DateTime n) = leaf (dateTime n)
+saidValue is.Null = leaf null
+saidValue (is.RegularExpression p o) = leaf (regex (part.said p) (part.said o))
+saidValue (is.DbPointer p i) = leaf (dbPointer (part.said p) (part.said i))
+saidValue (is.JavaScriptCode p) = leaf (code (part.said p))
+saidValue (is.Symbol p) = leaf (symbol (part.said p))
+saidValue (is.JavaScriptCodeWithScope c p) = codeWithScope (part.said c) (part.said p)
+saidValue (is.Int32 n) = leaf (int32 n)
+saidValue (is.Timestamp i n) = leaf (timestamp i n)
+saidValue (is.Int64 n) = leaf (int64 n)
+saidValue (is.Decimal128 p) = leaf (decimal128 (part.said p))
+saidValue is.MinKey = leaf minKey
+saidValue is.MaxKey = leaf maxKey
+
+abbrev pub said : Parsed → Answer value.Value
+said (Is v) = gives (saidValue v)
+said (Refused k) = refuses k 0
+
+-- an int64 or a datetime, by its tag
+abbrev pub asLong : ℕ → ℤ → Leaf
+asLong tag n = cond (eqb tag 0x09) (dateTime n) (int64 n)
+
+-- a string, code or symbol, by its tag
+abbrev pub asText : ℕ → paper.Part → Leaf
+asText tag p = cond (eqb tag 0x0D) (code p) (cond (eqb tag 0x0E) (symbol p) (string p))
+
+-- a regex that lies from an offset on
+abbrev pub asRegex : ℕ → Answer (paper.Part × paper.Part) → Answer value.Value
+asRegex offset a =
+    then a λ r.
+    gives (leaf (regex (paper.part offset (r .0 .size)) (paper.part (offset + r .1 .offset) (r .1 .size))))
+
+-- "scope start not before the end 12; scope admitted (1, 2, 3)"
+unfoldable pub scopeFrom : List ℕ → paper.Part → ℕ → paper.Part → Answer value.Value
+scopeFrom v c start p =
+    unless (ltb start (length v)) 12
+    (then (admitted (drop start v)) λ _.
+    gives (codeWithScope c (paper.trim start 0 p)))

@@ -1,0 +1,304 @@
+// What a framed value holds (src/raw/value.rs of the Rust).
+ghost use Prim.Native.Nat.{_+_, _-_, _<_, _≤_};
+ghost use mathlib.Core.Path.{_≡_};
+ghost use mathlib.Core.Bool.{_&&_};
+ghost use lib.Dec.{leb, eqb};
+ghost use lib.ListN.{length, getD, drop};
+ghost use Rattle.bson.specs.Answer.{then};
+ghost use Rattle.bson.specs.Bytes.{le32, le64, i32, i64, bytes, trim as trimmed};
+ghost use Rattle.bson.specs.Utf8.{utf8};
+ghost use Rattle.bson.specs.Tags.{typeOf, DbPointer};
+ghost use Rattle.bson.specs.Framing.{inFront, patternOptions};
+ghost use Rattle.bson.specs.Value as paper;
+ghost use Rattle.part.specs.Said as onPaper;
+ghost use Rattle.value.specs.Said.{said, asLong, asText, asRegex, scopeFrom};
+use cstr::Length;
+use framing::PatternOptions;
+use num::Boolean;
+use num::Double;
+use num::Int32;
+use num::Int64;
+use num::Timestamp;
+use num::Uint32;
+use part::Part;
+
+// A value of each type: numbers as numbers, a double by its bits, bytes as parts of the slice.
+pub enum Value {
+    Double(u64),
+    String(Part),
+    Document(Part),
+    Array(Part),
+    Binary { subtype: u8, data: Part },
+    Undefined,
+    ObjectId(Part),
+    Boolean(bool),
+    DateTime(i64),
+    Null,
+    RegularExpression { pattern: Part, options: Part },
+    DbPointer { namespace: Part, id: Part },
+    JavaScriptCode(Part),
+    Symbol(Part),
+    JavaScriptCodeWithScope { code: Part, scope: Part },
+    Int32(i32),
+    Timestamp { increment: u32, seconds: u32 },
+    Int64(i64),
+    Decimal128(Part),
+    MinKey,
+    MaxKey,
+}
+
+// The value, or the number of the refusal.
+pub enum Parsed {
+    Is(Value),
+    Refused(u8),
+}
+
+fn boolean(v: &[u8]) -> Parsed
+    ensures { λ r. ⌜ said r ≡ paper.asLeaf paper.boolean (paper.bool (now (v .entry))) ⌝ }
+{
+    match num::bool_from_slice(v) {
+        Boolean::Is(b) => Parsed::Is(Value::Boolean(b)),
+        Boolean::Refused(number) => Parsed::Refused(number),
+    }
+}
+
+fn int32(v: &[u8]) -> Parsed
+    ensures { λ r. ⌜ said r ≡ paper.asLeaf paper.int32 (inFront 4 i32 (now (v .entry))) ⌝ }
+{
+    match num::i32_from_slice(v) {
+        Int32::Is(n) => Parsed::Is(Value::Int32(n)),
+        Int32::Refused(number) => Parsed::Refused(number),
+    }
+}
+
+// An int64 or a datetime, by its tag.
+fn int64(v: &[u8], tag: u8) -> Parsed
+    ensures { λ r. ⌜ said r ≡ paper.asLeaf (asLong tag) (inFront 8 i64 (now (v .entry))) ⌝ }
+{
+    match num::i64_from_slice(v) {
+        Int64::Refused(number) => Parsed::Refused(number),
+        Int64::Is(n) => {
+            if tag == 0x09 {
+                Parsed::Is(Value::DateTime(n))
+            } else {
+                Parsed::Is(Value::Int64(n))
+            }
+        }
+    }
+}
+
+fn double(v: &[u8]) -> Parsed
+    ensures { λ r. ⌜ said r ≡ paper.asLeaf paper.double (inFront 8 le64 (now (v .entry))) ⌝ }
+{
+    match num::f64_from_slice(v) {
+        Double::Bits(bits) => Parsed::Is(Value::Double(bits)),
+        Double::Refused(number) => Parsed::Refused(number),
+    }
+}
+
+fn timestamp(v: &[u8]) -> Parsed
+    ensures { λ r. ⌜ said r ≡ paper.asLeaf (λ t. paper.timestamp (t .0) (t .1)) (paper.timestampOf (now (v .entry))) ⌝ }
+{
+    match num::timestamp_from_slice(v) {
+        Timestamp::Is { increment, seconds } => Parsed::Is(Value::Timestamp { increment, seconds }),
+        Timestamp::Refused(number) => Parsed::Refused(number),
+    }
+}
+
+// A part without its first and its last bytes, of which no more are taken than it has.
+fn trim(part: Part, front: usize, back: usize) -> Part
+    requires { ⌜ (part .offset + front < 18446744073709551616) × (front + back < 18446744073709551616) ⌝ }
+    ensures { λ r. ⌜ onPaper.said r ≡ trimmed front back (onPaper.said part) ⌝ }
+{
+    let offset = part.offset + front;
+    let less = front + back;
+    let mut size = 0;
+    if less < part.size {
+        size = part.size - less;
+    }
+    Part { offset, size }
+}
+
+fn is_text(s: &[u8], part: Part) -> bool
+    ensures { λ r. ⌜ r ≡ utf8 (bytes (now (s .entry)) (onPaper.said part)) ⌝ }
+{
+    utf8::is_utf8(part::bytes_of(s, part))
+}
+
+// A string, code or symbol, by its tag: 6 where it is not UTF-8.
+fn text(s: &[u8], tag: u8, framed: Part) -> Parsed
+    requires { ⌜ framed .offset + framed .size ≤ length (now s) ⌝ }
+    ensures { λ r. ⌜ said r ≡ paper.asLeaf (asText tag) (paper.text (now (s .entry)) (trimmed 4 1 (onPaper.said framed))) ⌝ }
+{
+    let text = trim(framed, 4, 1);
+    if !is_text(s, text) {
+        return Parsed::Refused(6);
+    }
+    if tag == 0x0D {
+        return Parsed::Is(Value::JavaScriptCode(text));
+    }
+    if tag == 0x0E {
+        return Parsed::Is(Value::Symbol(text));
+    }
+    Parsed::Is(Value::String(text))
+}
+
+// A namespace, which must be UTF-8 (6), and twelve bytes.
+fn db_pointer(s: &[u8], framed: Part) -> Parsed
+    requires { ⌜ framed .offset + framed .size ≤ length (now s) ⌝ }
+    ensures { λ r. ⌜ said r ≡ paper.content (now (s .entry)) (onPaper.said framed) DbPointer ⌝ }
+{
+    let namespace = trim(framed, 4, 13);
+    if !is_text(s, namespace) {
+        return Parsed::Refused(6);
+    }
+    let mut front = 0;
+    if 12 < framed.size {
+        front = framed.size - 12;
+    }
+    let id = trim(framed, front, 0);
+    Parsed::Is(Value::DbPointer { namespace, id })
+}
+
+fn byte_at(v: &[u8], i: usize) -> u8
+    ensures { λ r. ⌜ r ≡ getD (now (v .entry)) i 0 ⌝ }
+{
+    if i < v.len() { v[i] } else { 0 }
+}
+
+// Whether data of subtype 2 begins with a length equal to the bytes behind it.
+fn is_old_binary(v: &[u8]) -> bool
+    ensures { λ r. ⌜ r ≡ (leb 9 (length (now (v .entry))) && eqb (le32 (drop 5 (now (v .entry)))) (length (now (v .entry)) - 9)) ⌝ }
+{
+    if v.len() < 9 {
+        return false;
+    }
+    match num::u32_from_slice(&v[5..]) {
+        Uint32::Refused(_) => false,
+        Uint32::Is(n) => (n as usize) == v.len() - 9,
+    }
+}
+
+// Binary data, behind its length and subtype; under subtype 2 behind a second length, else 12.
+fn binary(v: &[u8], framed: Part) -> Parsed
+    requires { ⌜ framed .offset < 9223372036854775808 ⌝ }
+    ensures { λ r. ⌜ said r ≡ paper.binaryValue (now (v .entry)) (onPaper.said framed) ⌝ }
+{
+    let subtype = byte_at(v, 4);
+    if subtype != 2 {
+        let data = trim(framed, 5, 0);
+        return Parsed::Is(Value::Binary { subtype, data });
+    }
+    if is_old_binary(v) {
+        let data = trim(framed, 9, 0);
+        return Parsed::Is(Value::Binary { subtype, data });
+    }
+    Parsed::Refused(12)
+}
+
+fn regular_expression(v: &[u8], offset: usize) -> Parsed
+    requires { ⌜ offset + length (now v) < 9223372036854775808 ⌝ }
+    ensures { λ r. ⌜ said r ≡ asRegex offset (patternOptions (now (v .entry))) ⌝ }
+{
+    match framing::pattern_options(v) {
+        PatternOptions::Refused(number) => Parsed::Refused(number),
+        PatternOptions::Is { pattern, options } => {
+            let behind = offset + pattern + 1;
+            let pattern = Part {
+                offset,
+                size: pattern,
+            };
+            let options = Part {
+                offset: behind,
+                size: options,
+            };
+            Parsed::Is(Value::RegularExpression { pattern, options })
+        }
+    }
+}
+
+// The document behind the code, from a start on to the end of the value.
+fn scope(v: &[u8], code: Part, start: usize, framed: Part) -> Parsed
+    requires { ⌜ framed .offset + start < 9223372036854775808 ⌝ }
+    ensures { λ r. ⌜ said r ≡ scopeFrom (now (v .entry)) (onPaper.said code) start (onPaper.said framed) ⌝ }
+{
+    if v.len() <= start {
+        return Parsed::Refused(12);
+    }
+    match raw::admit(&v[start..]) {
+        Length::Refused(number) => Parsed::Refused(number),
+        Length::Is(_) => {
+            let scope = trim(framed, start, 0);
+            Parsed::Is(Value::JavaScriptCodeWithScope { code, scope })
+        }
+    }
+}
+
+// Code, then a scope that is admitted: 12, 8, 9, 10, 6, 12, 1, 2, 3, in this order.
+fn code_with_scope(v: &[u8], framed: Part) -> Parsed
+    requires { ⌜ framed .offset + length (now v) < 9223372036854775808 ⌝ }
+    ensures { λ r. ⌜ said r ≡ paper.scopeValue (now (v .entry)) (onPaper.said framed) ⌝ }
+{
+    if v.len() < 14 {
+        return Parsed::Refused(12);
+    }
+    match raw::read_len(&v[4..]) {
+        Length::Refused(number) => Parsed::Refused(number),
+        Length::Is(n) => {
+            let size = n - 5;
+            if !is_text(v, Part { offset: 8, size }) {
+                return Parsed::Refused(6);
+            }
+            let code = Part {
+                offset: framed.offset + 8,
+                size,
+            };
+            scope(v, code, 4 + n, framed)
+        }
+    }
+}
+
+// By the tag: 7 where it is in no row of the table, else the refusals of its type.
+fn content(s: &[u8], tag: u8, framed: Part) -> Parsed
+    requires { ⌜ framed .offset + framed .size ≤ length (now s) ⌝ }
+    ensures { λ r. ⌜ said r ≡ then (typeOf tag) (paper.content (now (s .entry)) (onPaper.said framed)) ⌝ }
+{
+    let v = part::bytes_of(s, framed);
+    match tag {
+        0x01 => double(v),
+        0x02 => text(s, 0x02, framed),
+        0x03 => Parsed::Is(Value::Document(framed)),
+        0x04 => Parsed::Is(Value::Array(framed)),
+        0x05 => binary(v, framed),
+        0x06 => Parsed::Is(Value::Undefined),
+        0x07 => Parsed::Is(Value::ObjectId(framed)),
+        0x08 => boolean(v),
+        0x09 => int64(v, 0x09),
+        0x0A => Parsed::Is(Value::Null),
+        0x0B => regular_expression(v, framed.offset),
+        0x0C => db_pointer(s, framed),
+        0x0D => text(s, 0x0D, framed),
+        0x0E => text(s, 0x0E, framed),
+        0x0F => code_with_scope(v, framed),
+        0x10 => int32(v),
+        0x11 => timestamp(v),
+        0x12 => int64(v, 0x12),
+        0x13 => Parsed::Is(Value::Decimal128(framed)),
+        0x7F => Parsed::Is(Value::MaxKey),
+        0xFF => Parsed::Is(Value::MinKey),
+        _ => Parsed::Refused(7),
+    }
+}
+
+// The value of this tag in a part of the slice: 9 where the part runs past the slice, then 7 and the refusals of its type.
+pub fn parse(s: &[u8], tag: u8, framed: Part) -> Parsed
+    ensures { λ r. ⌜ said r ≡ paper.valueIn (now (s .entry)) tag (onPaper.said framed) ⌝ }
+{
+    if s.len() < framed.size {
+        return Parsed::Refused(9);
+    }
+    if s.len() - framed.size < framed.offset {
+        return Parsed::Refused(9);
+    }
+    content(s, tag, framed)
+}
