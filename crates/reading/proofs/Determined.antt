@@ -1,0 +1,61 @@
+-- Determined: the promise of each call allows one answer (document 01, "What every answer is bound to"). Assumes nothing.
+use mathlib.Core.Path.{_≡_, refl, sym, _∙_}
+use contract.Lifetimes.{Lfts}
+use borrow.Fn.Kinds.{Dens}
+use denote.Ref.{now}
+use Rattle.bson.specs.Answer.{Answer, gives, refuses}
+use Rattle.bson.specs.Bytes as bytes
+use Rattle.bson.specs.Value as paper
+use Rattle.laws.proofs.Determined.{Determined, DeterminedPart, injective-by}
+use Rattle.part.specs.declared.Part.{Part}
+use Rattle.part.specs.Said as part
+use Rattle.part.proofs.Determined.{unsaidPart}
+use Rattle.value.proofs.Determined.{unsaidValue, value-again}
+use Rattle.reading.specs.Said.{said, saidParts}
+use Rattle.reading.specs.declared.Reading.{Reading}
+use Rattle.reading.specs.declared.Reading.the-variants.{Is, Refused}
+use Rattle.reading.specs.declared.Parts.{Parts}
+use Rattle.reading.proofs.value_of.Reads as value-of-reads
+use Rattle.reading.proofs.value_of.Kinds as value-of-kinds
+use Rattle.reading.proofs.read_at.Reads as read-at-reads
+use Rattle.reading.proofs.read_at.Kinds as read-at-kinds
+use Rattle.reading.proofs.read_with.Reads as read-with-reads
+use Rattle.reading.proofs.read_with.Kinds as read-with-kinds
+use Rattle.reading.proofs.parts_of.Reads as parts-of-reads
+use Rattle.reading.proofs.parts_of.Kinds as parts-of-kinds
+use Rattle.reading.proofs.part_of.Reads as part-of-reads
+use Rattle.reading.proofs.part_of.Kinds as part-of-kinds
+use Rattle.reading.proofs.part_at.Reads as part-at-reads
+use Rattle.reading.proofs.part_at.Kinds as part-at-kinds
+
+abbrev unsaid : Answer paper.Value → Reading
+unsaid (gives v) = Is (unsaidValue v)
+unsaid (refuses number place) = Refused number place
+
+again : (r : Reading) → unsaid (said r) ≡ r
+again (Is v) = rw (value-again v)
+again (Refused number place) = refl
+
+pub said-injective : (a b : Reading) → said a ≡ said b → a ≡ b
+said-injective = injective-by said unsaid again
+
+pub value-of-determined : (κs : Lfts 1) (a : Dens κs value-of-kinds.ps) → Determined (value-of-reads.Post κs a)
+value-of-determined κs a r₁ r₂ s₁ s₂ p q = said-injective r₁ r₂ (p ∙ sym q)
+
+pub read-at-determined : (κs : Lfts 1) (a : Dens κs read-at-kinds.ps) → Determined (read-at-reads.Post κs a)
+read-at-determined κs a r₁ r₂ s₁ s₂ p q = said-injective r₁ r₂ (p ∙ sym q)
+
+pub read-with-determined : (κs : Lfts 1) (a : Dens κs read-with-kinds.ps) → Determined (read-with-reads.Post κs a)
+read-with-determined κs a r₁ r₂ s₁ s₂ p q = said-injective r₁ r₂ (p ∙ sym q)
+
+abbrev unsaidParts : bytes.Part × bytes.Part → Parts
+unsaidParts p = record { 0 = unsaidPart (p .0); 1 = unsaidPart (p .1) }
+
+pub parts-of-determined : (κs : Lfts 0) (a : Dens κs parts-of-kinds.ps) → Determined (parts-of-reads.Post κs a)
+parts-of-determined κs a r₁ r₂ s₁ s₂ p q = injective-by saidParts unsaidParts (λ r. refl) r₁ r₂ (p ∙ sym q)
+
+pub part-of-determined : (κs : Lfts 0) (a : Dens κs part-of-kinds.ps) → Determined (part-of-reads.Post κs a)
+part-of-determined κs a r₁ r₂ s₁ s₂ p q = injective-by part.said unsaidPart (λ r. refl) r₁ r₂ (p ∙ sym q)
+
+pub part-at-determined : (κs : Lfts 1) (a : Dens κs part-at-kinds.ps) → DeterminedPart now (part-at-reads.Post κs a)
+part-at-determined κs a r₁ r₂ s₁ s₂ p q = p ∙ sym q

@@ -1,0 +1,50 @@
+-- `reading::part_at` meets its contract: a part of what its twin reads, else nothing. Assumes nothing.
+use mathlib.Core.Path.{ap, _∙_}
+use Rattle.bson.specs.Bytes.{bytes}
+use Rattle.bson.specs.Value.{partAt}
+use Rattle.laws.proofs.AnswerLaws.{answered}
+use Rattle.reading.specs.Said.{said}
+use borrow.Author.Needs.{needs}
+use Rattle.reading.proofs.part_at.Statement.{statement}
+use Rattle.reading.proofs.part_at.Tie as tie
+
+read-with-requires : tie.Need-read-with-requires
+read-with-requires c κs = search needs
+
+enum-told : tie.Need-enum-told
+enum-told c = search needs
+
+slice-aggregate-result : tie.Need-slice-aggregate-result
+slice-aggregate-result c = search needs
+
+enum-known-value : tie.Need-enum-known-value
+enum-known-value c = search needs
+
+part-of-requires : tie.Need-part-of-requires
+part-of-requires c κs = search needs
+
+bytes-of-requires : tie.Need-bytes-of-requires
+bytes-of-requires c κs = search needs
+
+returns : tie.Need-returns
+unfolding partAt
+returns c = rw (answered said (c .before .before .before .read-with .ensures) (c .before .enum-told .given .1))
+
+returns-2 : tie.Need-returns-2
+unfolding partAt
+returns-2 c =
+    let b = c .before .before .before in
+    rw (answered said (b .before .before .read-with .ensures) (b .value .given .1)) (c .bytes-of .ensures ∙ ap (bytes _) (c .before .part-of .ensures))
+
+pub part-at-spec : {M : Type 1} → statement M
+part-at-spec =
+    tie.close
+    (tie.spec
+    read-with-requires
+    enum-told
+    slice-aggregate-result
+    enum-known-value
+    part-of-requires
+    bytes-of-requires
+    returns
+    returns-2)

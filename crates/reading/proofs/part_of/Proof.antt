@@ -1,0 +1,24 @@
+-- `reading::part_of` meets its contract: the one of the two parts that is asked for. Assumes nothing.
+use mathlib.Core.Path.{ap}
+use Rattle.bson.specs.Bytes.{Part}
+use borrow.Author.Needs.{needs}
+use Rattle.reading.proofs.part_of.Statement.{statement}
+use Rattle.reading.proofs.part_of.Tie as tie
+
+parts-of-requires : tie.Need-parts-of-requires
+parts-of-requires c κs = search needs
+
+enum-told : tie.Need-enum-told
+enum-told c = search needs
+
+enum-told-2 : tie.Need-enum-told-2
+enum-told-2 c = search needs
+
+returns : tie.Need-returns
+returns c = rw (c .before .enum-told .given .1) (ap (λ (p : Part × Part). p .0) (c .before .before .before .parts-of .ensures))
+
+returns-2 : tie.Need-returns-2
+returns-2 c = rw (c .before .enum-told2 .given .1) (ap (λ (p : Part × Part). p .1) (c .before .before .before .parts-of .ensures))
+
+pub part-of-spec : {M : Type 1} → statement M
+part-of-spec = tie.close (tie.spec parts-of-requires enum-told enum-told-2 returns returns-2)

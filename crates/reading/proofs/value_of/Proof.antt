@@ -1,0 +1,28 @@
+-- `reading::value_of` meets its contract: what the value's part holds, at the element's place. Assumes nothing.
+use Rattle.bson.specs.Value.{valueOf}
+use Rattle.laws.proofs.AnswerLaws.{answered}
+use Rattle.value.specs.Said as parsed
+use borrow.Author.Needs.{needs}
+use Rattle.reading.proofs.value_of.Statement.{statement}
+use Rattle.reading.proofs.value_of.Tie as tie
+
+parse-requires : tie.Need-parse-requires
+parse-requires c κs = search needs
+
+enum-known-value : tie.Need-enum-known-value
+enum-known-value c = search needs
+
+enum-known-number : tie.Need-enum-known-number
+enum-known-number c = search needs
+
+returns : tie.Need-returns
+unfolding valueOf
+returns c = rw (answered parsed.said (c .before .before .before .parse .ensures) (c .before .value .given .1))
+
+returns-2 : tie.Need-returns-2
+unfolding valueOf
+returns-2 c = rw (answered parsed.said (c .before .before .before .parse .ensures) (c .before .number .given .1))
+
+pub value-of-spec : {M : Type 1} → statement M
+value-of-spec =
+    tie.close (tie.spec parse-requires enum-known-value enum-known-number returns returns-2)

@@ -1,0 +1,22 @@
+-- What the cases of a reading, the parts and which of them say on paper.
+use Rattle.bson.specs.Answer.{Answer, gives, refuses}
+use Rattle.bson.specs.Bytes as bytes
+use Rattle.bson.specs.Value as paper
+use Rattle.part.specs.Said as part
+use Rattle.value.specs.Said.{saidValue}
+use Rattle.reading.specs.declared.Reading.{Reading}
+use Rattle.reading.specs.declared.Reading.the-variants.{Is, Refused}
+use Rattle.reading.specs.declared.Parts.{Parts}
+use Rattle.reading.specs.declared.Which.{Which}
+use Rattle.reading.specs.declared.Which.the-variants.{First, Second}
+
+abbrev pub said : Reading → Answer paper.Value
+said (Is v) = gives (saidValue v)
+said (Refused number place) = refuses number place
+
+abbrev pub saidParts : Parts → bytes.Part × bytes.Part
+saidParts p = (part.said (p .0), part.said (p .1))
+
+abbrev pub saidWhich : Which → paper.Which
+saidWhich First = paper.first
+saidWhich Second = paper.second

@@ -1,0 +1,151 @@
+// Reading a value at a place, and the parts of a value (`RawElement::value` in src/raw/iter.rs of the Rust).
+ghost use mathlib.Core.Path.{_≡_};
+ghost use Rattle.bson.specs.Value.{valueOf, readAt, readWith, ofTag, partsOf, partOf, partAt};
+ghost use Rattle.bson.specs.Answer.{then};
+ghost use Rattle.iter.specs.Said.{saidElement};
+ghost use Rattle.part.specs.Said as onPaper;
+ghost use Rattle.value.specs.Said.{saidValue};
+ghost use Rattle.reading.specs.Said.{said, saidParts, saidWhich};
+use iter::Cursor;
+use iter::Element;
+use iter::Step;
+use part::Part;
+use value::Parsed;
+use value::Value;
+
+// The value, or the number and the place of the refusal.
+pub enum Reading {
+    Is(Value),
+    Refused { number: u8, place: usize },
+}
+
+// The parts of a value in the order in which they lie; empty parts for those that it has not.
+pub struct Parts(pub Part, pub Part);
+
+// Which part of a value: the first is the text, the data, the document, the ObjectId, the decimal128, the pattern, the
+// namespace, the code; the second the options, the DBPointer's ObjectId, the scope.
+pub enum Which {
+    First,
+    Second,
+}
+
+// The value of an element: 9 where it runs past the slice, then 7 and the refusals of its type.
+pub fn value_of(s: &[u8], element: Element) -> Reading
+    ensures { λ r. ⌜ said r ≡ valueOf (now (s .entry)) (saidElement element) ⌝ }
+{
+    let place = element.place;
+    let framed = element.value;
+    match value::parse(s, element.tag, framed) {
+        Parsed::Is(value) => Reading::Is(value),
+        Parsed::Refused(number) => Reading::Refused { number, place },
+    }
+}
+
+// The same, of a value that must have this tag: 17 behind its own refusals.
+fn value_with(s: &[u8], element: Element, tag: u8) -> Reading
+    ensures { λ r. ⌜ said r ≡ then (valueOf (now (s .entry)) (saidElement element)) (ofTag (saidElement element) tag) ⌝ }
+{
+    let place = element.place;
+    match value_of(s, element) {
+        Reading::Refused { number, place } => Reading::Refused { number, place },
+        Reading::Is(value) => {
+            if element.tag == tag {
+                return Reading::Is(value);
+            }
+            Reading::Refused { number: 17, place }
+        }
+    }
+}
+
+// Steps to a place and reads there: the step's refusals, 16 at the terminator, then the value's.
+pub fn read_at(s: &[u8], place: usize) -> Reading
+    ensures { λ r. ⌜ said r ≡ readAt (now (s .entry)) place ⌝ }
+{
+    let cursor = Cursor {
+        offset: place,
+        ended: false,
+    };
+    match iter::next(s, cursor) {
+        Step::Refused {
+            number,
+            place,
+            next: _,
+        } => Reading::Refused { number, place },
+        Step::End { next: _ } => Reading::Refused { number: 16, place },
+        Step::Yield { element, next: _ } => value_of(s, element),
+    }
+}
+
+// The same, of a value that must have this tag (17).
+pub fn read_with(s: &[u8], place: usize, tag: u8) -> Reading
+    ensures { λ r. ⌜ said r ≡ readWith (now (s .entry)) place tag ⌝ }
+{
+    let cursor = Cursor {
+        offset: place,
+        ended: false,
+    };
+    match iter::next(s, cursor) {
+        Step::Refused {
+            number,
+            place,
+            next: _,
+        } => Reading::Refused { number, place },
+        Step::End { next: _ } => Reading::Refused { number: 16, place },
+        Step::Yield { element, next: _ } => value_with(s, element, tag),
+    }
+}
+
+pub fn parts_of(value: Value) -> Parts
+    ensures { λ r. ⌜ saidParts r ≡ partsOf (saidValue value) ⌝ }
+{
+    let none = Part { offset: 0, size: 0 };
+    match value {
+        Value::Double(_) => Parts(none, none),
+        Value::String(text) => Parts(text, none),
+        Value::Document(document) => Parts(document, none),
+        Value::Array(array) => Parts(array, none),
+        Value::Binary { subtype: _, data } => Parts(data, none),
+        Value::Undefined => Parts(none, none),
+        Value::ObjectId(id) => Parts(id, none),
+        Value::Boolean(_) => Parts(none, none),
+        Value::DateTime(_) => Parts(none, none),
+        Value::Null => Parts(none, none),
+        Value::RegularExpression { pattern, options } => Parts(pattern, options),
+        Value::DbPointer { namespace, id } => Parts(namespace, id),
+        Value::JavaScriptCode(code) => Parts(code, none),
+        Value::Symbol(symbol) => Parts(symbol, none),
+        Value::JavaScriptCodeWithScope { code, scope } => Parts(code, scope),
+        Value::Int32(_) => Parts(none, none),
+        Value::Timestamp {
+            increment: _,
+            seconds: _,
+        } => Parts(none, none),
+        Value::Int64(_) => Parts(none, none),
+        Value::Decimal128(decimal) => Parts(decimal, none),
+        Value::MinKey => Parts(none, none),
+        Value::MaxKey => Parts(none, none),
+    }
+}
+
+pub fn part_of(value: Value, which: Which) -> Part
+    ensures { λ r. ⌜ onPaper.said r ≡ partOf (saidWhich which) (saidValue value) ⌝ }
+{
+    let parts = parts_of(value);
+    match which {
+        Which::First => parts.0,
+        Which::Second => parts.1,
+    }
+}
+
+// A part of the value of this tag at a place, as a part of the slice; empty where `read_with`, its twin, refuses.
+pub fn part_at<'a>(s: &'a [u8], place: usize, tag: u8, which: Which) -> &'a [u8]
+    ensures { λ r. ⌜ now r ≡ partAt (now (s .entry)) place tag (saidWhich which) ⌝ }
+{
+    match read_with(s, place, tag) {
+        Reading::Refused {
+            number: _,
+            place: _,
+        } => &s[..0],
+        Reading::Is(value) => part::bytes_of(s, part_of(value, which)),
+    }
+}
