@@ -1,0 +1,59 @@
+-- Determined: the promise of each call allows one answer (document 01, "What every answer is bound to"). Assumes nothing.
+use mathlib.Core.Path.{_≡_, refl, sym, _∙_}
+use mathlib.Core.Bool.{Bool}
+use contract.Lifetimes.{Lfts}
+use borrow.Fn.Kinds.{Dens}
+use denote.Ref.{now}
+use Rattle.bson.specs.Answer.{Answer, gives, refuses}
+use Rattle.bson.specs.Lookup as paper
+use Rattle.laws.proofs.Determined.{Determined, DeterminedPart, injective-by, unsaid}
+use Rattle.cstr.proofs.Determined as length
+use Rattle.iter.proofs.Determined.{unsaidElement}
+use Rattle.value.proofs.Determined.{unsaidValue, value-again}
+use Rattle.document.specs.Said.{saidEmpty, said}
+use Rattle.document.specs.declared.Empty.{Empty}
+use Rattle.document.specs.declared.Empty.the-variants as empty
+use Rattle.document.specs.declared.Found.{Found}
+use Rattle.document.specs.declared.Found.the-variants.{Is, Refused}
+use Rattle.document.proofs.from_bytes.Reads as from-bytes-reads
+use Rattle.document.proofs.from_bytes.Kinds as from-bytes-kinds
+use Rattle.document.proofs.is_empty.Reads as is-empty-reads
+use Rattle.document.proofs.is_empty.Kinds as is-empty-kinds
+use Rattle.document.proofs.get_element.Reads as get-element-reads
+use Rattle.document.proofs.get_element.Kinds as get-element-kinds
+use Rattle.document.proofs.get.Reads as get-reads
+use Rattle.document.proofs.get.Kinds as get-kinds
+use Rattle.document.proofs.get_with.Reads as get-with-reads
+use Rattle.document.proofs.get_with.Kinds as get-with-kinds
+use Rattle.document.proofs.get_part.Reads as get-part-reads
+use Rattle.document.proofs.get_part.Kinds as get-part-kinds
+
+pub from-bytes-determined : (κs : Lfts 1) (a : Dens κs from-bytes-kinds.ps) → Determined (from-bytes-reads.Post κs a)
+from-bytes-determined κs a r₁ r₂ s₁ s₂ p q = length.said-injective r₁ r₂ (p ∙ sym q)
+
+empty-again : (r : Empty) → unsaid empty.Is empty.Refused (saidEmpty r) ≡ r
+empty-again (empty.Is b) = refl
+empty-again (empty.Refused number) = refl
+
+pub is-empty-determined : (κs : Lfts 1) (a : Dens κs is-empty-kinds.ps) → Determined (is-empty-reads.Post κs a)
+is-empty-determined κs a r₁ r₂ s₁ s₂ p q = injective-by saidEmpty (unsaid empty.Is empty.Refused) empty-again r₁ r₂ (p ∙ sym q)
+
+abbrev unsaidFound : Answer paper.Found → Found
+unsaidFound (gives f) = Is (unsaidElement (f .element)) (unsaidValue (f .value))
+unsaidFound (refuses number place) = Refused number place
+
+found-again : (r : Found) → unsaidFound (said r) ≡ r
+found-again (Is e v) = rw (value-again v)
+found-again (Refused number place) = refl
+
+pub get-element-determined : (κs : Lfts 2) (a : Dens κs get-element-kinds.ps) → Determined (get-element-reads.Post κs a)
+get-element-determined κs a r₁ r₂ s₁ s₂ p q = injective-by said unsaidFound found-again r₁ r₂ (p ∙ sym q)
+
+pub get-determined : (κs : Lfts 2) (a : Dens κs get-kinds.ps) → DeterminedPart now (get-reads.Post κs a)
+get-determined κs a r₁ r₂ s₁ s₂ p q = p ∙ sym q
+
+pub get-with-determined : (κs : Lfts 2) (a : Dens κs get-with-kinds.ps) → Determined (get-with-reads.Post κs a)
+get-with-determined κs a r₁ r₂ s₁ s₂ p q = injective-by said unsaidFound found-again r₁ r₂ (p ∙ sym q)
+
+pub get-part-determined : (κs : Lfts 2) (a : Dens κs get-part-kinds.ps) → DeterminedPart now (get-part-reads.Post κs a)
+get-part-determined κs a r₁ r₂ s₁ s₂ p q = p ∙ sym q

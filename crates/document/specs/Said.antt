@@ -1,0 +1,18 @@
+-- What each case of an answer says on paper.
+use mathlib.Core.Bool.{Bool}
+use Rattle.bson.specs.Answer.{Answer, gives, refuses}
+use Rattle.bson.specs.Lookup as paper
+use Rattle.iter.specs.Said.{saidElement}
+use Rattle.value.specs.Said.{saidValue}
+use Rattle.document.specs.declared.Empty.{Empty}
+use Rattle.document.specs.declared.Empty.the-variants as empty
+use Rattle.document.specs.declared.Found.{Found}
+use Rattle.document.specs.declared.Found.the-variants.{Is, Refused}
+
+abbrev pub saidEmpty : Empty → Answer Bool
+saidEmpty (empty.Is b) = gives b
+saidEmpty (empty.Refused number) = refuses number 0
+
+abbrev pub said : Found → Answer paper.Found
+said (Is e v) = gives (record { element = saidElement e; value = saidValue v })
+said (Refused number place) = refuses number place
