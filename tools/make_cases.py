@@ -1,7 +1,7 @@
 #!/usr/bin/env python3
 """Makes what the vectors program replays, and samples/beacon.bson.
 
-crates/vectors/stdin holds questions to leaves, then the list: a document a line with every answer about it (diff/README.md says
+crates/vectors/stdin holds questions, then the list: a document a line with every answer about it (diff/README.md says
 the form). The answers come from document 01's rules (tools/rules.py) and, for the list, are held against those of the Rust.
 
 usage: tools/make_cases.py --check           the files are what the rules say; needs no Rust
@@ -15,12 +15,12 @@ import sys
 
 import rules
 from documents import beacon, bytes_to_try, documents
-from questions import leaf_questions
+from questions import all_questions
 from rules import Refused
 
 ROOT = os.path.join(os.path.dirname(os.path.abspath(__file__)), "..")
-# the tags whose values the leaves can read
-READ_BY_LEAVES = {"08", "10", "12", "01", "09", "11", "02", "0d", "0e"}
+# the parts that no code answers yet
+LEFT = ("check", "strict")
 
 
 # ---- a line of the list, by the rules
@@ -118,18 +118,22 @@ def confirm(lines, oracle):
 # ---- what the vectors program prints
 
 
+def is_element(fields):
+    return fields[0] == "at" and fields[2] not in ("end", "refused")
+
+
+def parts_of(lines):
+    return [part.split(" ") for text in lines for part in text.split("; ")[1:]]
+
+
 def totals(lines):
-    """Its last line: every step is an answer, every value one, every other part one; some are of calls that are not there yet."""
+    """Its last line: every step is an answer, every value one, every other part one."""
     alike = left = 0
-    for parts in (text.split("; ")[1:] for text in lines):
-        for part in parts:
-            fields = part.split(" ")
-            if fields[0] in ("admission", "at"):
-                alike += 1
-            else:
-                left += 1
-            if fields[0] == "at" and fields[2] not in ("end", "refused"):
-                alike, left = (alike + 1, left) if fields[2] in READ_BY_LEAVES else (alike, left + 1)
+    for fields in parts_of(lines):
+        if fields[0] in LEFT:
+            left += 1
+        else:
+            alike += 2 if is_element(fields) else 1
     return f"{len(lines)} documents, {alike} answers alike, 0 differ, {left} left"
 
 
@@ -150,11 +154,11 @@ def try_documents(lines):
     """Some document has each call answered, and refused by each number that it can be; some element has each tag of the table."""
     said = {call: set() for call in NUMBERS}
     tags = set()
-    for part in (part for text in lines for part in text.split("; ")[1:]):
-        call, *fields = part.split(" ")
-        if call == "at" and fields[1] not in ("end", "refused"):
+    for fields in parts_of(lines):
+        call = fields[0]
+        if is_element(fields):
             call = "value"
-            tags.add(int(fields[1], 16))
+            tags.add(int(fields[2], 16))
         said[call].add(int(fields[-1]) if "refused" in fields else 0)
     assert said == {call: numbers | {0} for call, numbers in NUMBERS.items()}, said
     assert tags == {*rules.FIXED, *rules.FRAMED}, tags
@@ -167,11 +171,44 @@ def try_rules():
         assert result == (f"{said[3]} at {said[2]}" if said[0] == "refused" else said[0]), d.hex()
 
 
+def refusal(rule, *args):
+    """The refusal; of number 0, at place 0, where the rule answers."""
+    try:
+        rule(*args)
+        return Refused(0)
+    except Refused as r:
+        return r
+
+
+def is_behind_damage(d, key):
+    """Whether a refused step ends the lookup, and the key stands behind it."""
+    r, step = refusal(rules.get, d, key), refusal(lambda: list(rules.elements(d)))
+    return r.number > 3 and (r.number, r.place) == (step.number, step.place) and key + b"\0" in d[r.place + 1 :]
+
+
+def is_before_damage(d, key):
+    """Whether the lookup finds a value, and the whole check refuses behind it."""
+    if refusal(rules.get, d, key).number:
+        return False
+    e, _ = rules.get(d, key)
+    return refusal(rules.check, d).place >= e.offset + e.size
+
+
+def try_lookups():
+    """Document 01's bytes are in the list with their lookups; a dozen lookups lie behind damage, a dozen before it."""
+    listed = dict(documents())
+    for d, _ in bytes_to_try():
+        assert {("get", b""), ("get", b"a")} <= set(listed[d]), d.hex()
+    gets = [(d, ask[1]) for d, asks in listed.items() for ask in asks if ask[0] == "get" and ask[1]]
+    for is_so in (is_behind_damage, is_before_damage):
+        assert sum(is_so(d, key) for d, key in gets) >= 12, is_so.__name__
+
+
 def files(lines):
-    leaves = leaf_questions()
+    asked = all_questions()
     return {
-        "crates/vectors/stdin": "".join(f"{t}\n" for t in [*leaves, *lines]).encode(),
-        "crates/vectors/stdout": "".join(f"{t}\n" for t in [*(f"{q} {a}" for q, a in leaves.items()), totals(lines)]).encode(),
+        "crates/vectors/stdin": "".join(f"{t}\n" for t in [*asked, *lines]).encode(),
+        "crates/vectors/stdout": "".join(f"{t}\n" for t in [*(f"{q} {a}" for q, a in asked.items()), totals(lines)]).encode(),
         "samples/beacon.bson": beacon(),
     }
 
@@ -193,13 +230,14 @@ def main():
     try_rules()
     lines = [line(d, asks) for d, asks in documents()]
     try_documents(lines)
+    try_lookups()
     made = files(confirm(lines, oracle) if oracle else lines)
     if not checking:
         for name, data in made.items():
             open(os.path.join(ROOT, name), "wb").write(data)
     marked = {name: bool(oracle) or not name.endswith("stdin") for name in made}
     differ = [name for name, data in made.items() if on_disk(name, marked[name]) != data]
-    print(f"{len(leaf_questions())} questions, {len(lines)} documents" + "".join(f"; {name} differs" for name in differ))
+    print(f"{len(all_questions())} questions, {len(lines)} documents" + "".join(f"; {name} differs" for name in differ))
     sys.exit(1 if differ else 0)
 
 

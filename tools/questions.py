@@ -1,15 +1,21 @@
-"""Questions to single leaves, which a document cannot ask: short slices, texts and keys by themselves, every class behind every tag.
+"""Questions that no document of the list asks. To single leaves: short slices, texts and keys by themselves, every class behind every
+tag. At any place of a document: a step from any cursor, a value, a part by its name.
 
 Each is a line for the vectors program and the answer that document 01's rules give, as the program prints it.
 """
-from documents import TRY, le, row_texts
-from rules import FIXED, FRAMED, Refused, admit, boolean, cstring, is_utf8, signed, unsigned, value_size
+import rules
+from documents import BATTERY, NULL, SAMPLED, TRY, bytes_to_try, doc, element, le, row_texts, text
+from rules import FIXED, FRAMED, PARTS, Refused, admit, boolean, cstring, is_utf8, signed, unsigned, value_size
 
 questions = {}
 
 
 def ask(word, answer, *parts):
     questions.setdefault(" ".join([word] + [bytes(p).hex() for p in parts]), answer)
+
+
+def ask_at(word, answer, s, *fields):
+    questions.setdefault(" ".join([word, s.hex(), *map(str, fields)]), answer)
 
 
 def yes(b):
@@ -65,6 +71,11 @@ def cstring_questions():
 # ---- numbers
 
 
+def timestamp(v):
+    _, increment, seconds = rules.content(v, 0x11, 0)
+    return f"{increment} {seconds}"
+
+
 def number_questions():
     for size, words in ((4, ("u32", "i32")), (8, ("f64", "i64"))):
         top = 2 ** (8 * size)
@@ -72,6 +83,8 @@ def number_questions():
         for word in words:
             for v in [le(x, size) for x in values] + [b"\x11" * n for n in range(size)] + [le(1, size) + b"\xff\xff"]:
                 ask(word, said(signed if word[0] == "i" else unsigned, v, size), v)
+    for v in [le(x, 8)[:n] for n in range(9) for x in (0x0807060504030201, 2**64 - 1, 2**31)] + [le(2**32, 9)]:
+        ask("timestamp", said(timestamp, v), v)
     for v in ([], [0], [1], [2], [255], [1, 2], [0, 255]):
         answer = said(boolean, v)
         ask("bool", {"gives 0": "no", "gives 1": "yes"}.get(answer, answer), v)
@@ -115,7 +128,72 @@ def admission_questions():
         ask("admit", said(admit, s), s)
 
 
-def leaf_questions():
-    for part in (utf8_questions, cstring_questions, number_questions, length_questions, tag_questions, admission_questions):
-        part()
+# ---- at any place
+
+
+def refused(r):
+    return f"refuses {r.number} at {r.place}"
+
+
+def said_step(s, offset, ended):
+    """The step's answer, and the cursor that it leaves."""
+    try:
+        e = rules.step_from(s, offset, ended)
+    except Refused as r:
+        return f"{refused(r)}, next {offset} ended"
+    if not e:
+        return f"ends, next {offset} ended"
+    return f"yields {e.place} tag {e.tag:02x} key {e.place + 1} {len(e.key)} value {e.offset} {e.size}, next {e.offset + e.size} open"
+
+
+def said_value(s, place):
+    try:
+        _, value = rules.read_at(s, place)
+        return " ".join(["gives", *map(str, value)])
+    except Refused as r:
+        return refused(r)
+
+
+def said_part(s, place, name):
+    part = rules.part_at(s, place, name)
+    return f"gives {part.hex()}" if part else "is empty"
+
+
+HUGE = (2**31, 2**63 - 1, 2**63, 2**64 - 1)
+
+
+def place_questions():
+    """From each offset of a document and past it, and from huge ones: a step from a cursor with the mark and without, and a value."""
+    tried = [d for d, _ in bytes_to_try()]
+    papers = [tried[p - 1] for p in (5, 6, 9, 10, 11, 12)]
+    damaged = doc(element(NULL, "z"), element(0x08, "a", b"\2"), element(0x02, "b", le(0)), BATTERY)
+    unadmitted = [b"", *(tried[p - 1] for p in (2, 3, 4)), le(11) + papers[0][4:]]
+    for s in [*papers, damaged, *unadmitted]:
+        for offset in (*range(len(s) + 3), *HUGE):
+            ask_at("step", said_step(s, offset, False), s, offset, "open")
+            ask_at("step", said_step(s, offset, True), s, offset, "ended")
+            ask_at("read", said_value(s, offset), s, offset)
+
+
+def part_questions():
+    """Each part by its name of values of each type, of values that are refused, and at places where no such value is."""
+    bad_text = text(b"\xff")
+    refused_values = [(0x02, bad_text), (0x0D, bad_text), (0x0E, bad_text), (0x0C, bad_text + bytes(12)), (0x05, le(1) + b"\2x"), (0x0F, le(3))]
+    for tag, value in [*SAMPLED, *refused_values]:
+        s = doc(element(tag, "a", value))
+        for name in PARTS:
+            ask_at("part", said_part(s, 4, name), s, 4, name)
+            if PARTS[name][0] == tag:
+                for place in (0, 3, 5, len(s) - 1, len(s), *HUGE):
+                    ask_at("part", said_part(s, place, name), s, place, name)
+
+
+GROUPS = (
+    utf8_questions, cstring_questions, number_questions, length_questions, tag_questions, admission_questions, place_questions, part_questions,
+)
+
+
+def all_questions():
+    for group in GROUPS:
+        group()
     return questions

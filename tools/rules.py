@@ -145,6 +145,12 @@ def step(s, offset):
     return None if offset == len(s) - 1 else at(offset, element, s, offset)
 
 
+def step_from(s, offset, ended):
+    """The same from any cursor: an ended one answers the end, once the slice is admitted."""
+    admit(s)
+    return None if ended else step(s, offset)
+
+
 def elements(s):
     """The elements that steps yield from offset 4 on; a refused step ends them by its refusal."""
     e = step(s, 4)
@@ -215,6 +221,39 @@ def value_of(s, e):
     return at(e.place, content, s[e.offset : e.offset + e.size], e.tag, e.offset)
 
 
+# ---- values at a place
+
+
+def read_at(s, place):
+    """The element at a place, and its value."""
+    e = step(s, place)
+    unless(e, 16, place)
+    return e, value_of(s, e)
+
+
+def with_tag(e, value, tag):
+    unless(e.tag == tag, 17, e.place)
+    return e, value
+
+
+# the tag of each part that is handed back by its name, and whether it is the first or the second
+PARTS = {
+    "string": (0x02, 0), "code": (0x0D, 0), "symbol": (0x0E, 0), "document": (0x03, 0), "array": (0x04, 0), "binary": (0x05, 0),
+    "pattern": (0x0B, 0), "options": (0x0B, 1), "namespace": (0x0C, 0), "scope_code": (0x0F, 0), "scope": (0x0F, 1),
+}
+
+
+def part_at(s, place, name):
+    """The bytes of a part of the value at a place; none where the value is refused or has another type."""
+    tag, which = PARTS[name]
+    try:
+        _, (word, *numbers) = with_tag(*read_at(s, place), tag)
+    except Refused:
+        return b""
+    offset, size = (numbers[1:] if word == "binary" else numbers)[2 * which :][:2]
+    return s[offset : offset + size]
+
+
 # ---- lookup
 
 
@@ -227,9 +266,7 @@ def get(s, key):
 
 
 def get_with(s, key, tag):
-    e, value = get(s, key)
-    unless(e.tag == tag, 17, e.place)
-    return e, value
+    return with_tag(*get(s, key), tag)
 
 
 def is_empty(s):

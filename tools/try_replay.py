@@ -6,21 +6,23 @@ usage: tools/try_replay.py VECTORS     the built program
 import subprocess
 import sys
 
-from make_cases import READ_BY_LEAVES, documents, line
+from make_cases import LEFT, documents, line
 
 EVERY = 40  # one document of the list in so many
+# how many fields of a part say what is asked: another key or tag might have the same answer, so these are made unreadable
+ASKED = {"get": 2, "typed": 3}
 
 
 def compared(fields):
-    """The fields of a part that the program compares: those of an answer that the leaves give, but for a refusal's kind; of others the word."""
-    if fields[0] not in ("admission", "at"):
+    """The fields of a part that the program compares: all but a refusal's kind; of a part that is left, the word."""
+    if fields[0] in LEFT:
         return [0]
-    framed_only = fields[0] == "at" and fields[2] not in READ_BY_LEAVES | {"end", "refused"}
-    return [j for j in range(1, 5 if framed_only else len(fields)) if fields[j - 1] != "refused"]
+    return [j for j in range(1, len(fields)) if fields[j - 1] != "refused"]
 
 
-def wrong(field):
-    return str(int(field) + 1) if field.isdigit() else field + "x"
+def wrong(fields, j):
+    number = fields[j].isdigit() and j >= ASKED.get(fields[0], 0)
+    return str(int(fields[j]) + 1) if number else fields[j] + "x"
 
 
 def wrong_lines(text):
@@ -29,7 +31,7 @@ def wrong_lines(text):
     for i, part in enumerate(parts[1:], 1):
         fields = part.split(" ")
         for j in compared(fields):
-            bad = " ".join(fields[:j] + [wrong(fields[j])] + fields[j + 1 :])
+            bad = " ".join(fields[:j] + [wrong(fields, j)] + fields[j + 1 :])
             yield "; ".join(parts[:i] + [bad] + parts[i + 1 :]), bad
 
 

@@ -1,125 +1,53 @@
-// Replays a document of the list: each part of its line is an answer, asked of the leaves and compared.
-ghost use Prim.Native.Nat.{_+_, _≤_};
-ghost use lib.ListN.{length};
-ghost use Rattle.vectors.specs.Inside.{Inside};
+// Replays a document of the list: each part of its line is an answer, which is asked for and compared.
+use crate::lookups::answer_get;
+use crate::lookups::answer_typed;
 use crate::progress::Progress;
 use crate::progress::Verdict;
 use crate::progress::judge;
 use crate::progress::left;
-use crate::text::field;
+use crate::steps::answer_step;
+use crate::steps::first_step;
 use crate::text::field_count;
 use crate::text::fields_from;
 use crate::text::find;
-use crate::text::is_byte;
 use crate::text::is_field;
-use crate::text::is_hex;
+use crate::text::is_unhexed;
 use crate::text::say;
 use crate::text::unhex;
 use crate::text::word_number;
-use crate::values::answer_value;
 use crate::values::is_refusal;
 use cstr::Length;
-
-// What a step gives; of an element, where its value starts and where the next step begins.
-pub enum Step {
-    End,
-    Refused(u8),
-    Yields(usize, usize),
-}
-
-// The value that starts behind the key of an element at an offset.
-fn value_at(document: &[u8], offset: usize, start: usize) -> Step
-    requires { ⌜ (offset + 2 ≤ start) × (start ≤ length (now document)) ⌝ }
-    ensures { λ r. ⌜ Inside offset (length (now (document .entry))) r ⌝ }
-{
-    match framing::value_len(document[offset], &document[start..]) {
-        Length::Refused(number) => Step::Refused(number),
-        Length::Is(size) => Step::Yields(start, start + size),
-    }
-}
-
-// What the leaves say of a step in an admitted document.
-fn step_at(document: &[u8], offset: usize) -> Step
-    ensures { λ r. ⌜ Inside offset (length (now (document .entry))) r ⌝ }
-{
-    if document.len() <= offset {
-        return Step::Refused(4);
-    }
-    let key = offset + 1;
-    if document.len() == key {
-        return Step::End;
-    }
-    match cstr::read_cstring(&document[key..]) {
-        Length::Refused(number) => Step::Refused(number),
-        Length::Is(n) => value_at(document, offset, key + n + 1),
-    }
-}
-
-// An element: its offset, tag and sizes are one answer, its value is another.
-fn answer_element(
-    answer: &[u8],
-    document: &[u8],
-    start: usize,
-    next: usize,
-    progress: Progress,
-) -> Progress
-    requires { ⌜ (progress .next + 2 ≤ start) × (start ≤ next) × (next ≤ length (now document)) ⌝ }
-{
-    let offset = progress.next;
-    let tag = document[offset];
-    let framed = is_field(answer, 1, offset as u64)
-        & is_byte(field(answer, 2), tag)
-        & is_field(answer, 3, (start - offset - 2) as u64)
-        & is_field(answer, 4, (next - start) as u64);
-    let value = answer_value(
-        fields_from(answer, 5),
-        tag,
-        &document[start..next],
-        start,
-        offset,
-    );
-    let mut after = progress.with_answer(judge(framed)).with_answer(value);
-    after.next = next;
-    after
-}
-
-// `at OFFSET ..`: an element, the end, or a refusal. The last two are the last step.
-fn answer_step(answer: &[u8], document: &[u8], progress: Progress) -> Progress {
-    let offset = progress.next;
-    if offset == 0 {
-        return progress.with_answer(Verdict::Differs);
-    }
-    let mut last = progress;
-    last.next = 0;
-    let is_offset = is_field(answer, 1, offset as u64);
-    let said = fields_from(answer, 2);
-    match step_at(document, offset) {
-        Step::End => last.with_answer(judge(is_offset & cstr::equal(said, b"end"))),
-        Step::Refused(number) => last.with_answer(judge(
-            is_offset & is_refusal(said, offset, number),
-        )),
-        Step::Yields(start, next) => answer_element(answer, document, start, next, progress),
-    }
-}
+use document::Empty;
 
 // `admission LENGTH`, or a refusal.
 fn answer_admission(answer: &[u8], document: &[u8]) -> Verdict {
-    match raw::admit(document) {
+    match document::from_bytes(document) {
         Length::Is(n) => judge((field_count(answer) == 2) & is_field(answer, 1, n as u64)),
         Length::Refused(number) => judge(is_refusal(fields_from(answer, 1), 0, number)),
     }
 }
 
-// Who answers a part, by the number of its word. Nobody answers the third to the seventh yet: these are left,
+// `empty yes`, `empty no`, or a refusal.
+fn answer_empty(answer: &[u8], document: &[u8]) -> Verdict {
+    let said = fields_from(answer, 1);
+    match document::is_empty(document) {
+        Empty::Is(yes) => {
+            judge((yes & cstr::equal(said, b"yes")) | (!yes & cstr::equal(said, b"no")))
+        }
+        Empty::Refused(number) => judge(is_refusal(said, 0, number)),
+    }
+}
+
+// Who answers a part, by the number of its word. Nobody answers the third and the fourth yet: these are left,
 // unless fields are missing. A part of any other word differs.
 fn answer_part(answer: &[u8], document: &[u8], progress: Progress) -> Progress {
-    let fields = field_count(answer);
     match word_number(b"admission at check strict empty get typed", answer) {
         1 => progress.with_answer(answer_admission(answer, document)),
         2 => answer_step(answer, document, progress),
-        3 | 4 | 5 => progress.with_answer(left(2 <= fields)),
-        6 => progress.with_answer(left(4 <= fields)),
-        7 => progress.with_answer(left(5 <= fields)),
+        3 | 4 => progress.with_answer(left(2 <= field_count(answer))),
+        5 => progress.with_answer(answer_empty(answer, document)),
+        6 => progress.with_answer(answer_get(answer, document)),
+        7 => progress.with_answer(answer_typed(answer, document)),
         _ => progress.with_answer(Verdict::Differs),
     }
 }
@@ -173,14 +101,6 @@ fn replay_parts(parts: &[u8], document: &[u8], hex: &[u8], progress: Progress) -
     progress
 }
 
-// Where the first step begins: there is none where the document is not admitted.
-fn first_step(document: &[u8]) -> usize {
-    match raw::admit(document) {
-        Length::Is(_) => 4,
-        Length::Refused(_) => 0,
-    }
-}
-
 // What stands before the parts: `document HEX`.
 fn head_of(line: &[u8]) -> &[u8] {
     let end = find(line, 0, b';');
@@ -192,17 +112,16 @@ fn parts_of(line: &[u8]) -> &[u8] {
     &line[end..]
 }
 
-// The parts are replayed where the document is all that the hexadecimal names; else the hexadecimal differs:
-// an odd digit, another character, or more bytes than there was room for.
+// The parts are replayed where the document is all that the hexadecimal names; else the hexadecimal differs.
 fn replay_unhexed(line: &[u8], document: &[u8], progress: Progress) -> Progress {
     let head = head_of(line);
     let hex = fields_from(head, 1);
-    if (document.len() + document.len() == hex.len()) & is_hex(hex) {
-        let begun = progress.with_document(first_step(document));
+    let begun = progress.with_document(first_step(document));
+    if is_unhexed(hex, document) {
         return replay_parts(parts_of(line), document, hex, begun);
     }
     say_differs(head, hex);
-    progress.with_document(0).with_answer(Verdict::Differs)
+    begun.with_answer(Verdict::Differs)
 }
 
 // A line `document HEX; ..`. It does little itself: what stands beside so large an array is slow to prove.

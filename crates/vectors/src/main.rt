@@ -1,9 +1,13 @@
 // Replays a list from standard input. A line that begins with `document ` is a document with its answers, which are
-// compared; any other line is a question to a leaf, which is printed again with the answer behind it.
+// compared; any other line is a question, which is printed again with the answer behind it.
 mod documents;
+mod getters;
+mod lookups;
+mod places;
 mod progress;
 mod questions;
 mod readings;
+mod steps;
 mod text;
 mod values;
 

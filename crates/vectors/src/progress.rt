@@ -1,6 +1,7 @@
 // How far the replay of documents has come: the answers so far, by what became of them, and the next step.
 use crate::text::say;
 use crate::text::say_number;
+use iter::Cursor;
 
 // Left: nobody answers it yet.
 pub enum Verdict {
@@ -26,13 +27,13 @@ pub fn left(readable: bool) -> Verdict {
     }
 }
 
-// The next step is an offset in the document, or 0 where no step follows.
+// The cursor is what the last step left; it has ended where no step follows.
 pub struct Progress {
     pub documents: u64,
     pub alike: u64,
     pub differ: u64,
     pub left: u64,
-    pub next: usize,
+    pub cursor: Cursor,
 }
 
 // One more, up to a number that no list reaches.
@@ -42,19 +43,28 @@ fn more(n: u64) -> u64 {
 
 impl Progress {
     pub fn new() -> Self {
+        let cursor = Cursor {
+            offset: 0,
+            ended: true,
+        };
         Self {
             documents: 0,
             alike: 0,
             differ: 0,
             left: 0,
-            next: 0,
+            cursor,
         }
     }
 
-    pub fn with_document(mut self, next: usize) -> Self {
+    pub fn with_document(mut self, cursor: Cursor) -> Self {
         self.documents = more(self.documents);
-        self.next = next;
+        self.cursor = cursor;
         self
+    }
+
+    pub fn with_step(mut self, cursor: Cursor, v: Verdict) -> Self {
+        self.cursor = cursor;
+        self.with_answer(v)
     }
 
     pub fn with_answer(mut self, v: Verdict) -> Self {

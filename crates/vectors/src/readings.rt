@@ -5,6 +5,7 @@ use num::Boolean;
 use num::Double;
 use num::Int32;
 use num::Int64;
+use num::Timestamp;
 use num::Uint32;
 
 // Nothing: there is no leaf for it.
@@ -49,6 +50,13 @@ pub fn double(bytes: &[u8]) -> Reading {
     match num::f64_from_slice(bytes) {
         Double::Bits(n) => Reading::Number(n),
         Double::Refused(number) => Reading::Refused(number),
+    }
+}
+
+pub fn timestamp(bytes: &[u8]) -> Reading {
+    match num::timestamp_from_slice(bytes) {
+        Timestamp::Is { increment, seconds } => Reading::Pair(increment as u64, seconds as u64),
+        Timestamp::Refused(number) => Reading::Refused(number),
     }
 }
 

@@ -4,6 +4,7 @@ ghost use Prim.Native.Nat.{_+_, _≤_, _<_, min};
 ghost use lib.ListN.{length};
 ghost use Rattle.io.specs.Counts.{Counts};
 use libc::STDOUT_FILENO;
+use std::num::wrapping_add_usize;
 
 pub fn say(text: &[u8]) {
     io::write_all(STDOUT_FILENO, text);
@@ -11,6 +12,27 @@ pub fn say(text: &[u8]) {
 
 pub fn say_number(n: u64) {
     io::print_decimal(STDOUT_FILENO, n);
+}
+
+// A number by its sign and its distance from 0.
+pub fn say_signed(below: bool, n: u64) {
+    if below {
+        say(b"-");
+    }
+    say_number(n);
+}
+
+// In two hexadecimal digits.
+pub fn say_byte(b: u8) {
+    io::print_hex(STDOUT_FILENO, b as u64, 2);
+}
+
+pub fn say_hex(bytes: &[u8]) {
+    let mut i = 0;
+    while i < bytes.len() {
+        say_byte(bytes[i]);
+        i += 1;
+    }
 }
 
 // How far a number is from 0.
@@ -39,15 +61,15 @@ pub fn is_field(text: &[u8], k: usize, n: u64) -> bool {
     is_number(field(text, k), n)
 }
 
-// Whether a field is this signed number in decimal.
-pub fn is_signed(field: &[u8], x: i64) -> bool {
-    if 0 <= x {
-        return is_number(field, distance(x));
+// Whether a field is the number of this sign and this distance from 0.
+pub fn is_signed(field: &[u8], below: bool, n: u64) -> bool {
+    if !below {
+        return is_number(field, n);
     }
     if field.len() < 1 {
         return false;
     }
-    (field[0] == b'-') & is_number(&field[1..], distance(x))
+    (field[0] == b'-') & is_number(&field[1..], n)
 }
 
 // Whether a field is this byte in two hexadecimal digits.
@@ -98,8 +120,16 @@ pub fn unhex(digits: &[u8], out: &mut [u8]) -> usize
     n
 }
 
+// The byte that the first two digits name; 0 where there are fewer.
+pub fn byte_of(digits: &[u8]) -> u8 {
+    if digits.len() < 2 {
+        return 0;
+    }
+    pair(digits, 0)
+}
+
 // Whether all are hexadecimal digits.
-pub fn is_hex(digits: &[u8]) -> bool {
+fn is_hex(digits: &[u8]) -> bool {
     let mut i = 0;
     while i < digits.len() {
         if (digit(digits[i]) == 0) & (digits[i] != b'0') {
@@ -108,6 +138,30 @@ pub fn is_hex(digits: &[u8]) -> bool {
         i += 1;
     }
     true
+}
+
+// Whether the bytes are all that the hexadecimal names: no odd digit, no other character, no more than there was room for.
+pub fn is_unhexed(hex: &[u8], bytes: &[u8]) -> bool {
+    (bytes.len() + bytes.len() == hex.len()) & is_hex(hex)
+}
+
+// A number with one more decimal digit behind it; one that is too large stays as it is.
+fn with_digit(n: usize, b: u8) -> usize {
+    if n <= 1844674407370955161 {
+        return wrapping_add_usize(10 * n, digit(b) as usize);
+    }
+    n
+}
+
+// The number that decimal digits name.
+pub fn number_of(digits: &[u8]) -> usize {
+    let mut n = 0;
+    let mut i = 0;
+    while i < digits.len() {
+        n = with_digit(n, digits[i]);
+        i += 1;
+    }
+    n
 }
 
 // The offset of a byte from an offset on, or the end.
