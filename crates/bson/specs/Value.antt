@@ -112,16 +112,22 @@ abbrev pub ofTag : {A : Type 0} → Element → ℕ → A → Answer A
 ofTag e tag a = at (e .place) (unless (eqb (e .tag) tag) 17 (gives a))
 
 -- "a value read takes a document and a place, steps there first, then reads"; "place is the terminator" 16
-abbrev pub reading : {A : Type 0} → ℕ → (Element → Answer A) → Step → Answer A
-reading place reads (yield e) = reads e
-reading place reads end = refuses 16 place
+abbrev pub yielded : ℕ → Step → Answer Element
+yielded place (yield e) = gives e
+yielded place end = refuses 16 place
+
+unfoldable pub elementAt : List ℕ → ℕ → Answer Element
+elementAt s place = then (step s (cursor place false)) (yielded place)
 
 unfoldable pub readAt : List ℕ → ℕ → Answer Value
-readAt s place = then (step s (cursor place false)) (reading place (valueOf s))
+readAt s place = then (elementAt s place) (valueOf s)
 
 -- the same, of a value that must have this tag: "the value's refusal, then 17"
 unfoldable pub readWith : List ℕ → ℕ → ℕ → Answer Value
-readWith s place tag = then (step s (cursor place false)) (reading place λ e. then (valueOf s e) (ofTag e tag))
+readWith s place tag =
+    then (elementAt s place) λ e.
+    then (valueOf s e) λ v.
+    ofTag e tag v
 
 -- the parts of a value that a call can hand back, first and second in the order in which they lie; a number has none
 abbrev pub none : Part

@@ -1,11 +1,11 @@
 // Reading a value at a place, and the parts of a value (`RawElement::value` in src/raw/iter.rs of the Rust).
 ghost use mathlib.Core.Path.{_≡_};
-ghost use Rattle.bson.specs.Value.{valueOf, readAt, readWith, ofTag, partsOf, partOf, partAt};
+ghost use Rattle.bson.specs.Value.{valueOf, elementAt, readAt, readWith, ofTag, partsOf, partOf, partAt};
 ghost use Rattle.bson.specs.Answer.{then};
 ghost use Rattle.iter.specs.Said.{saidElement};
 ghost use Rattle.part.specs.Said as onPaper;
 ghost use Rattle.value.specs.Said.{saidValue};
-ghost use Rattle.reading.specs.Said.{said, saidParts, saidWhich};
+ghost use Rattle.reading.specs.Said.{said, saidLocated, saidParts, saidWhich};
 use iter::Cursor;
 use iter::Element;
 use iter::Step;
@@ -57,41 +57,48 @@ fn value_with(s: &[u8], element: Element, tag: u8) -> Reading
     }
 }
 
+// The element at a place, or the number and the place of the refusal.
+enum Located {
+    Is(Element),
+    Refused { number: u8, place: usize },
+}
+
+// Steps to a place: the step's refusals, and 16 at the terminator.
+fn locate(s: &[u8], place: usize) -> Located
+    ensures { λ r. ⌜ saidLocated r ≡ elementAt (now (s .entry)) place ⌝ }
+{
+    let cursor = Cursor {
+        offset: place,
+        ended: false,
+    };
+    match iter::next(s, cursor) {
+        Step::Refused {
+            number,
+            place,
+            next: _,
+        } => Located::Refused { number, place },
+        Step::End { next: _ } => Located::Refused { number: 16, place },
+        Step::Yield { element, next: _ } => Located::Is(element),
+    }
+}
+
 // Steps to a place and reads there: the step's refusals, 16 at the terminator, then the value's.
 pub fn read_at(s: &[u8], place: usize) -> Reading
     ensures { λ r. ⌜ said r ≡ readAt (now (s .entry)) place ⌝ }
 {
-    let cursor = Cursor {
-        offset: place,
-        ended: false,
-    };
-    match iter::next(s, cursor) {
-        Step::Refused {
-            number,
-            place,
-            next: _,
-        } => Reading::Refused { number, place },
-        Step::End { next: _ } => Reading::Refused { number: 16, place },
-        Step::Yield { element, next: _ } => value_of(s, element),
+    match locate(s, place) {
+        Located::Refused { number, place } => Reading::Refused { number, place },
+        Located::Is(element) => value_of(s, element),
     }
 }
 
-// The same, of a value that must have this tag (17).
+// The same, of a value that must have this tag: 17 behind its own refusals.
 pub fn read_with(s: &[u8], place: usize, tag: u8) -> Reading
     ensures { λ r. ⌜ said r ≡ readWith (now (s .entry)) place tag ⌝ }
 {
-    let cursor = Cursor {
-        offset: place,
-        ended: false,
-    };
-    match iter::next(s, cursor) {
-        Step::Refused {
-            number,
-            place,
-            next: _,
-        } => Reading::Refused { number, place },
-        Step::End { next: _ } => Reading::Refused { number: 16, place },
-        Step::Yield { element, next: _ } => value_with(s, element, tag),
+    match locate(s, place) {
+        Located::Refused { number, place } => Reading::Refused { number, place },
+        Located::Is(element) => value_with(s, element, tag),
     }
 }
 

@@ -1,19 +1,16 @@
--- `reading::read_at` meets its contract: the step decides, then the reading of what it yields. Assumes nothing.
+-- `reading::read_at` meets its contract: the element at the place, then its value. Assumes nothing.
 use Rattle.bson.specs.Value.{readAt}
 use Rattle.laws.proofs.AnswerLaws.{answered}
-use Rattle.iter.specs.Said as step
+use Rattle.reading.specs.Said.{saidLocated}
 use borrow.Author.Needs.{needs}
 use Rattle.reading.proofs.read_at.Statement.{statement}
 use Rattle.reading.proofs.read_at.Tie as tie
 
-next-requires : tie.Need-next-requires
-next-requires c κs = search needs
+locate-requires : tie.Need-locate-requires
+locate-requires c κs = search needs
 
 enum-known-number : tie.Need-enum-known-number
 enum-known-number c = search needs
-
-enum-told : tie.Need-enum-told
-enum-told c = search needs
 
 enum-known-element : tie.Need-enum-known-element
 enum-known-element c = search needs
@@ -23,25 +20,19 @@ value-of-requires c κs = search needs
 
 returns : tie.Need-returns
 unfolding readAt
-returns c = rw (answered step.said (c .before .before .before .next .ensures .0) (c .before .number .given .1))
+returns c = rw (answered saidLocated (c .before .before .before .locate .ensures) (c .before .number .given .1))
 
 returns-2 : tie.Need-returns-2
 unfolding readAt
-returns-2 c = rw (answered step.said (c .before .before .next .ensures .0) (c .enum-told .given .1))
-
-returns-3 : tie.Need-returns-3
-unfolding readAt
-returns-3 c = rw (answered step.said (c .before .before .before .before .next .ensures .0) (c .before .before .element .given .1)) (c .value-of .ensures)
+returns-2 c = rw (answered saidLocated (c .before .before .before .before .locate .ensures) (c .before .before .element .given .1)) (c .value-of .ensures)
 
 pub read-at-spec : {M : Type 1} → statement M
 read-at-spec =
     tie.close
     (tie.spec
-    next-requires
+    locate-requires
     enum-known-number
-    enum-told
     enum-known-element
     value-of-requires
     returns
-    returns-2
-    returns-3)
+    returns-2)

@@ -1,0 +1,43 @@
+-- `reading::locate` meets its contract: the element that the step there yields. Assumes nothing.
+use Rattle.bson.specs.Value.{elementAt}
+use Rattle.laws.proofs.AnswerLaws.{answered}
+use Rattle.iter.specs.Said as step
+use borrow.Author.Needs.{needs}
+use Rattle.reading.proofs.locate.Statement.{statement}
+use Rattle.reading.proofs.locate.Tie as tie
+
+next-requires : tie.Need-next-requires
+next-requires c κs = search needs
+
+enum-known-number : tie.Need-enum-known-number
+enum-known-number c = search needs
+
+enum-told : tie.Need-enum-told
+enum-told c = search needs
+
+enum-known-element : tie.Need-enum-known-element
+enum-known-element c = search needs
+
+returns : tie.Need-returns
+unfolding elementAt
+returns c = rw (answered step.said (c .before .before .before .next .ensures .0) (c .before .number .given .1))
+
+returns-2 : tie.Need-returns-2
+unfolding elementAt
+returns-2 c = rw (answered step.said (c .before .before .next .ensures .0) (c .enum-told .given .1))
+
+returns-3 : tie.Need-returns-3
+unfolding elementAt
+returns-3 c = rw (answered step.said (c .before .before .before .next .ensures .0) (c .before .element .given .1))
+
+pub locate-spec : {M : Type 1} → statement M
+locate-spec =
+    tie.close
+    (tie.spec
+    next-requires
+    enum-known-number
+    enum-told
+    enum-known-element
+    returns
+    returns-2
+    returns-3)
