@@ -7,6 +7,7 @@ pub mod Determined
 pub mod FramingLaws
 pub mod LookupLaws
 pub mod OpenLaws
+pub mod PartLaws
 pub mod StepLaws
 pub mod AdvanceLaws
 pub mod TagLaws

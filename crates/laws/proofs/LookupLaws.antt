@@ -1,6 +1,6 @@
--- Lookup goes from step to step: what each answer of the step at an offset means for the search from there; and a typed getter gives
--- the number of the value found. Assumes nothing.
-use Prim.Native.Nat.{ℕ, _+_}
+-- Lookup goes from step to step: what each answer of the step at an offset means for the search from there; what is found lies in
+-- the slice; and a typed getter gives the number of the value found. Assumes nothing.
+use Prim.Native.Nat.{ℕ, _+_, _≤_}
 use mathlib.Core.Path.{_≡_, refl, sym, ap, subst, _∙_}
 use mathlib.Core.List.{List}
 use mathlib.Core.Bool.{Bool, true, false}
@@ -12,13 +12,14 @@ use Rattle.bson.specs.Answer.{Answer, gives, refuses, at}
 use Rattle.bson.specs.Bytes.{le64, i32, i64, Part, bytes, same}
 use Rattle.bson.specs.Tags.{ElementType, Boolean, Int32, Double, Int64, DateTime, Timestamp, tags, rowOf, typeOf}
 use Rattle.bson.specs.Framing.{inFront}
-use Rattle.bson.specs.Step.{admitted, cursor, Element, past, yield, end, step, Iteration, ended, broken, more, onward, iterate}
+use Rattle.bson.specs.Step.{admitted, Cursor, cursor, Element, past, yield, end, step, Iteration, ended, broken, more, onward, iterate}
 use Rattle.bson.specs.Value.{Leaf, leaf, boolean, int32, int64, dateTime, double, timestamp, asLeaf, bool, timestampOf, content, valueIn, valueOf}
 use Rattle.bson.specs.Lookup.{Found, found, first, get, getWith, typed}
 use Rattle.laws.proofs.AnswerLaws.{never, gives-injective, unless-gives, then-gives, at-gives}
 use Rattle.laws.proofs.Common.{split}
 use Rattle.laws.proofs.AdvanceLaws.{step-ends}
-use Rattle.laws.proofs.StepLaws.{iterate-eq}
+use Rattle.laws.proofs.StepLaws.{Yields, iterate-eq, Each, iterate-each}
+use Rattle.laws.proofs.PartLaws.{BothEnd, parts-inside}
 
 -- the search from an offset on
 abbrev pub search-from : List ℕ → List ℕ → ℕ → Answer Found
@@ -49,26 +50,41 @@ pub typed-is : {A : Type 0} (number : List ℕ → Answer A) (s key : List ℕ) 
     → getWith s key tag ≡ gives f → v ≡ bytes s (f .element .value) → number v ≡ x → at (f .element .place) x ≡ typed number s key tag
 typed-is number s key tag f v x g e q = rw (g, ← e, q)
 
--- what a search finds was read
-first-reads : (s key : List ℕ) (i : Iteration) (f : Found) → first s key i ≡ gives f → valueOf s (f .element) ≡ gives (f .value)
+-- what is found: an element that a step yields, and its value as it reads
+pub record Finds (s : List ℕ) (f : Found) : Type 0 where
+  pub at-cursor : Cursor
+  pub yields : Yields s at-cursor (f .element)
+  pub reads : valueOf s (f .element) ≡ gives (f .value)
+
+first-finds : (s key : List ℕ) (offset : ℕ) (i : Iteration) → Each s offset i → (f : Found) → first s key i ≡ gives f → Finds s f
 unfolding found
-first-reads s key ended f x = never x
-first-reads s key (broken n p) f x = never x
-first-reads s key (more e rest) f x =
+first-finds s key offset ended g f x = never x
+first-finds s key offset (broken n p) g f x = never x
+first-finds s key offset (more e rest) g f x =
     split (same key (bytes s (e .key)))
     (λ t. let (v, q, h) = then-gives (valueOf s e) _ (rw t at x) in
-    subst (λ (g : Found). valueOf s (g .element) ≡ gives (g .value)) (gives-injective h) q)
-    (λ t. first-reads s key rest f (rw t at x))
+    subst (Finds s) (gives-injective h) (record { at-cursor = _; yields = g .0; reads = q }))
+    (λ t. first-finds s key (past e) rest (g .1) f (rw t at x))
+
+pub get-finds : (s key : List ℕ) (f : Found) → get s key ≡ gives f → Finds s f
+unfolding get
+get-finds s key f x = first-finds s key 4 (iterate s 4) (iterate-each s 4) f x
+
+-- it lies in the slice, and so do the parts of its value
+pub get-inside : (s key : List ℕ) (f : Found) → get s key ≡ gives f → (past (f .element) ≤ length s) × BothEnd (length s) (f .value)
+get-inside s key f x =
+    let r = get-finds s key f x in
+    (r .yields .inside, parts-inside s (r .at-cursor) (f .element) (r .yields) (f .value) (r .reads))
 
 -- what a typed lookup finds was read, and has the tag
 pub get-with-says : (s key : List ℕ) (tag : ℕ) (f : Found) → getWith s key tag ≡ gives f
-    → (valueOf s (f .element) ≡ gives (f .value)) × (f .element .tag ≡ tag)
-unfolding getWith get
+    → (get s key ≡ gives f) × (f .element .tag ≡ tag)
+unfolding getWith
 get-with-says s key tag f x =
-    let (g, q, h) = then-gives (first s key (iterate s 4)) _ x in
+    let (g, q, h) = then-gives (get s key) _ x in
     let (t, h1) = unless-gives (eqb (g .element .tag) tag) 17 _ (at-gives (g .element .place) _ h) in
     let i : g ≡ f = gives-injective h1 in
-    rw (← i) (first-reads s key (iterate s 4) g q, eqb-true _ _ t)
+    (q ∙ ap gives i, sym (ap (λ (d : Found). d .element .tag) i) ∙ eqb-true _ _ t)
 
 -- where the typed lookup finds, the typed getter gives the number of the value found
 pub typed-reads : {A : Type 0} (number : List ℕ → Answer A) (holds : A → Leaf) (type : ElementType) (s key : List ℕ) (tag : ℕ) (f : Found)
@@ -77,7 +93,8 @@ pub typed-reads : {A : Type 0} (number : List ℕ → Answer A) (holds : A → L
 unfolding valueOf valueIn
 typed-reads number holds type s key tag f y r g =
     let p = f .element .value in
-    let (x, t) = get-with-says s key tag f g in
+    let (d, t) = get-with-says s key tag f g in
+    let x = get-finds s key f d .reads in
     let (u, x1) = unless-gives (leb (p .offset + p .size) (length s)) 9 _ (at-gives (f .element .place) _ x) in
     let (k, q, x2) = then-gives (typeOf (f .element .tag)) _ x1 in
     let i : k ≡ type = gives-injective (sym q ∙ ap typeOf t ∙ y) in
