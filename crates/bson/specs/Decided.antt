@@ -6,7 +6,7 @@ use lib.ListN.{length}
 use Rattle.bson.specs.Answer.{Answer, gives, refuses, then}
 use Rattle.bson.specs.Step.{cursor, step}
 use Rattle.bson.specs.Bytes.{le32}
-use Rattle.bson.specs.Value.{first, valueOf, readAt, readWith, partAt}
+use Rattle.bson.specs.Value.{first, second, valueOf, readAt, readWith, partAt}
 use Rattle.bson.specs.Vectors.{elem}
 use Rattle.bson.specs.Lookup.{get, getBytes, getWith, isEmpty}
 use Rattle.bson.specs.Check.{check}
@@ -37,6 +37,10 @@ badBoolean = 0x08 ∷ 0 ∷ 0 ∷ 0 ∷ 0x08 ∷ 0 ∷ 0x02 ∷ 0 ∷ []
 -- binary data of subtype 2, one byte behind its inner length
 abbrev pub oldBinary : List ℕ
 oldBinary = 0x11 ∷ 0 ∷ 0 ∷ 0 ∷ 0x05 ∷ 0 ∷ 0x05 ∷ 0 ∷ 0 ∷ 0 ∷ 0x02 ∷ 0x01 ∷ 0 ∷ 0 ∷ 0 ∷ 0xAA ∷ 0 ∷ []
+
+-- a regex of pattern `a` and options `i`
+abbrev pub regexOf : List ℕ
+regexOf = 0x0B ∷ 0 ∷ 0 ∷ 0 ∷ 0x0B ∷ 0 ∷ 0x61 ∷ 0 ∷ 0x69 ∷ 0 ∷ 0 ∷ []
 
 -- what the definition says, and what was settled
 unfoldable pub points : List (Answer ℕ × Answer ℕ)
@@ -81,6 +85,8 @@ points =
     ∷ (gives (le32 (partAt oldBinary 4 0x05 first)), gives 0xAA)
     ∷ (gives (length (partAt oldBinary 4 0x05 first)), gives 1)
     ∷ (gives (length (partAt oldBinary 4 0x02 first)), gives 0)
+    ∷ (gives (le32 (partAt regexOf 4 0x0B first)), gives 0x61)
+    ∷ (gives (le32 (partAt regexOf 4 0x0B second)), gives 0x69)
     -- the framed bytes that a lookup hands back
     ∷ (gives (length (getBytes oldBinary [])), gives 10)
     -- a strict array key: ASCII digits, one or more

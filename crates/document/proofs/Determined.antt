@@ -4,9 +4,9 @@ use mathlib.Core.Bool.{Bool}
 use contract.Lifetimes.{Lfts}
 use borrow.Fn.Kinds.{Dens}
 use denote.Ref.{now}
-use Rattle.bson.specs.Answer.{Answer, gives, refuses}
+use Rattle.bson.specs.Answer.{Answer}
 use Rattle.bson.specs.Lookup as paper
-use Rattle.laws.proofs.Determined.{Determined, DeterminedPart, injective-by, unsaid}
+use Rattle.laws.proofs.Determined.{Determined, DeterminedPart, injective-by, unsaid, unsaidAt}
 use Rattle.cstr.proofs.Determined as length
 use Rattle.iter.proofs.Determined.{unsaidElement}
 use Rattle.value.proofs.Determined.{unsaidValue, value-again}
@@ -39,8 +39,7 @@ pub is-empty-determined : (κs : Lfts 1) (a : Dens κs is-empty-kinds.ps) → De
 is-empty-determined κs a r₁ r₂ s₁ s₂ p q = injective-by saidEmpty (unsaid empty.Is empty.Refused) empty-again r₁ r₂ (p ∙ sym q)
 
 abbrev unsaidFound : Answer paper.Found → Found
-unsaidFound (gives f) = Is (unsaidElement (f .element)) (unsaidValue (f .value))
-unsaidFound (refuses number place) = Refused number place
+unsaidFound = unsaidAt (λ f. Is (unsaidElement (f .element)) (unsaidValue (f .value))) Refused
 
 found-again : (r : Found) → unsaidFound (said r) ≡ r
 found-again (Is e v) = rw (value-again v)

@@ -18,3 +18,8 @@ injective-by said unsaid again a b e = sym (again a) ∙ ap unsaid e ∙ again b
 abbrev pub unsaid : {A E : Type 0} → (A → E) → (ℕ → E) → Answer A → E
 unsaid is refused (gives a) = is a
 unsaid is refused (refuses number place) = refused number
+
+-- the same where the case of a refusal holds its place too
+abbrev pub unsaidAt : {A E : Type 0} → (A → E) → (ℕ → ℕ → E) → Answer A → E
+unsaidAt is refused (gives a) = is a
+unsaidAt is refused (refuses number place) = refused number place

@@ -3,10 +3,10 @@ use mathlib.Core.Path.{_≡_, refl, sym, _∙_}
 use contract.Lifetimes.{Lfts}
 use borrow.Fn.Kinds.{Dens}
 use denote.Ref.{now}
-use Rattle.bson.specs.Answer.{Answer, gives, refuses}
+use Rattle.bson.specs.Answer.{Answer}
 use Rattle.bson.specs.Bytes as bytes
 use Rattle.bson.specs.Value as paper
-use Rattle.laws.proofs.Determined.{Determined, DeterminedPart, injective-by}
+use Rattle.laws.proofs.Determined.{Determined, DeterminedPart, injective-by, unsaidAt}
 use Rattle.part.specs.declared.Part.{Part}
 use Rattle.part.specs.Said as part
 use Rattle.part.proofs.Determined.{unsaidPart}
@@ -29,8 +29,7 @@ use Rattle.reading.proofs.part_at.Reads as part-at-reads
 use Rattle.reading.proofs.part_at.Kinds as part-at-kinds
 
 abbrev unsaid : Answer paper.Value → Reading
-unsaid (gives v) = Is (unsaidValue v)
-unsaid (refuses number place) = Refused number place
+unsaid = unsaidAt (λ v. Is (unsaidValue v)) Refused
 
 again : (r : Reading) → unsaid (said r) ≡ r
 again (Is v) = rw (value-again v)

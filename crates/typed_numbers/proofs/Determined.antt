@@ -1,10 +1,8 @@
 -- Determined: the promise of each call allows one answer (document 01, "What every answer is bound to"). Assumes nothing.
-use Prim.Native.Nat.{ℕ}
 use mathlib.Core.Path.{_≡_, refl, sym, _∙_}
 use contract.Lifetimes.{Lfts}
 use borrow.Fn.Kinds.{Dens}
-use Rattle.bson.specs.Answer.{Answer, gives, refuses}
-use Rattle.laws.proofs.Determined.{Determined, injective-by}
+use Rattle.laws.proofs.Determined.{Determined, injective-by, unsaidAt}
 use Rattle.typed_numbers.specs.Said.{saidF64, saidBool, saidTimestamp, saidI32, saidI64}
 use Rattle.typed_numbers.specs.declared.F64.{F64}
 use Rattle.typed_numbers.specs.declared.F64.the-variants as f64
@@ -29,45 +27,40 @@ use Rattle.typed_numbers.proofs.get_i64.Kinds as get-i64-kinds
 use Rattle.typed_numbers.proofs.get_datetime.Reads as get-datetime-reads
 use Rattle.typed_numbers.proofs.get_datetime.Kinds as get-datetime-kinds
 
--- an answer back as a case of an enum that holds what is given, or a refusal's number and place
-abbrev back : {A E : Type 0} → (A → E) → (ℕ → ℕ → E) → Answer A → E
-back is refused (gives a) = is a
-back is refused (refuses number place) = refused number place
-
-f64-again : (r : F64) → back f64.Bits f64.Refused (saidF64 r) ≡ r
+f64-again : (r : F64) → unsaidAt f64.Bits f64.Refused (saidF64 r) ≡ r
 f64-again (f64.Bits x) = refl
 f64-again (f64.Refused number place) = refl
 
 pub get-f64-determined : (κs : Lfts 2) (a : Dens κs get-f64-kinds.ps) → Determined (get-f64-reads.Post κs a)
-get-f64-determined κs a r₁ r₂ s₁ s₂ p q = injective-by saidF64 (back f64.Bits f64.Refused) f64-again r₁ r₂ (p ∙ sym q)
+get-f64-determined κs a r₁ r₂ s₁ s₂ p q = injective-by saidF64 (unsaidAt f64.Bits f64.Refused) f64-again r₁ r₂ (p ∙ sym q)
 
-bool-again : (r : Bool) → back bool.Is bool.Refused (saidBool r) ≡ r
+bool-again : (r : Bool) → unsaidAt bool.Is bool.Refused (saidBool r) ≡ r
 bool-again (bool.Is x) = refl
 bool-again (bool.Refused number place) = refl
 
 pub get-bool-determined : (κs : Lfts 2) (a : Dens κs get-bool-kinds.ps) → Determined (get-bool-reads.Post κs a)
-get-bool-determined κs a r₁ r₂ s₁ s₂ p q = injective-by saidBool (back bool.Is bool.Refused) bool-again r₁ r₂ (p ∙ sym q)
+get-bool-determined κs a r₁ r₂ s₁ s₂ p q = injective-by saidBool (unsaidAt bool.Is bool.Refused) bool-again r₁ r₂ (p ∙ sym q)
 
-i32-again : (r : I32) → back i32.Is i32.Refused (saidI32 r) ≡ r
+i32-again : (r : I32) → unsaidAt i32.Is i32.Refused (saidI32 r) ≡ r
 i32-again (i32.Is x) = refl
 i32-again (i32.Refused number place) = refl
 
 pub get-i32-determined : (κs : Lfts 2) (a : Dens κs get-i32-kinds.ps) → Determined (get-i32-reads.Post κs a)
-get-i32-determined κs a r₁ r₂ s₁ s₂ p q = injective-by saidI32 (back i32.Is i32.Refused) i32-again r₁ r₂ (p ∙ sym q)
+get-i32-determined κs a r₁ r₂ s₁ s₂ p q = injective-by saidI32 (unsaidAt i32.Is i32.Refused) i32-again r₁ r₂ (p ∙ sym q)
 
-i64-again : (r : I64) → back i64.Is i64.Refused (saidI64 r) ≡ r
+i64-again : (r : I64) → unsaidAt i64.Is i64.Refused (saidI64 r) ≡ r
 i64-again (i64.Is x) = refl
 i64-again (i64.Refused number place) = refl
 
 pub get-i64-determined : (κs : Lfts 2) (a : Dens κs get-i64-kinds.ps) → Determined (get-i64-reads.Post κs a)
-get-i64-determined κs a r₁ r₂ s₁ s₂ p q = injective-by saidI64 (back i64.Is i64.Refused) i64-again r₁ r₂ (p ∙ sym q)
+get-i64-determined κs a r₁ r₂ s₁ s₂ p q = injective-by saidI64 (unsaidAt i64.Is i64.Refused) i64-again r₁ r₂ (p ∙ sym q)
 
 pub get-datetime-determined : (κs : Lfts 2) (a : Dens κs get-datetime-kinds.ps) → Determined (get-datetime-reads.Post κs a)
-get-datetime-determined κs a r₁ r₂ s₁ s₂ p q = injective-by saidI64 (back i64.Is i64.Refused) i64-again r₁ r₂ (p ∙ sym q)
+get-datetime-determined κs a r₁ r₂ s₁ s₂ p q = injective-by saidI64 (unsaidAt i64.Is i64.Refused) i64-again r₁ r₂ (p ∙ sym q)
 
-timestamp-again : (r : Timestamp) → back (λ t. timestamp.Is (t .0) (t .1)) timestamp.Refused (saidTimestamp r) ≡ r
+timestamp-again : (r : Timestamp) → unsaidAt (λ t. timestamp.Is (t .0) (t .1)) timestamp.Refused (saidTimestamp r) ≡ r
 timestamp-again (timestamp.Is increment seconds) = refl
 timestamp-again (timestamp.Refused number place) = refl
 
 pub get-timestamp-determined : (κs : Lfts 2) (a : Dens κs get-timestamp-kinds.ps) → Determined (get-timestamp-reads.Post κs a)
-get-timestamp-determined κs a r₁ r₂ s₁ s₂ p q = injective-by saidTimestamp (back (λ t. timestamp.Is (t .0) (t .1)) timestamp.Refused) timestamp-again r₁ r₂ (p ∙ sym q)
+get-timestamp-determined κs a r₁ r₂ s₁ s₂ p q = injective-by saidTimestamp (unsaidAt (λ t. timestamp.Is (t .0) (t .1)) timestamp.Refused) timestamp-again r₁ r₂ (p ∙ sym q)
