@@ -7,7 +7,7 @@ use Rattle.bson.specs.Answer.{Answer, gives, refuses}
 use Rattle.bson.specs.Step as paper
 use Rattle.laws.proofs.Determined.{Determined, DeterminedPart, injective-by}
 use Rattle.part.proofs.Determined.{unsaidPart}
-use Rattle.iter.specs.Said.{saidCursor, saidElement, said, behind}
+use Rattle.iter.specs.Said.{said, behind}
 use Rattle.iter.specs.declared.Cursor.{Cursor}
 use Rattle.iter.specs.declared.Element.{Element}
 use Rattle.iter.specs.declared.Step.{Step}

@@ -1,4 +1,5 @@
 -- What cursors, elements and the cases of an answer say on paper, and the cursor behind a step.
+use mathlib.Core.Path.{_≡_}
 use Rattle.bson.specs.Answer.{Answer, gives, refuses}
 use Rattle.bson.specs.Step as paper
 use Rattle.part.specs.Said as part
@@ -28,3 +29,7 @@ abbrev pub behind : Step → paper.Cursor
 behind (Yield e c) = saidCursor c
 behind (End c) = saidCursor c
 behind (Refused k p c) = saidCursor c
+
+-- what a step from a cursor answers, and that the cursor behind it is the one after that answer
+abbrev pub Answers : Step → paper.Cursor → Answer paper.Step → Type 0
+Answers r c a = (said r ≡ a) × (behind r ≡ paper.after c a)

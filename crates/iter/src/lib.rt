@@ -5,8 +5,8 @@ ghost use Prim.Native.Nat.{_<_};
 ghost use lib.Dec.{leb};
 ghost use lib.ListN.{length};
 ghost use Rattle.bson.specs.Answer.{at};
-ghost use Rattle.bson.specs.Step.{cursor, element, yielding, step, after, keyAt};
-ghost use Rattle.iter.specs.Said.{saidCursor, saidFramed, said, behind};
+ghost use Rattle.bson.specs.Step.{cursor, element, yielding, step, keyAt};
+ghost use Rattle.iter.specs.Said.{saidCursor, saidFramed, Answers};
 use cstr::Length;
 use part::Part;
 
@@ -80,7 +80,7 @@ fn element_at(s: &[u8], place: usize) -> Framed
 // The step at an element: the next one begins where its value ends.
 fn step_at_element(s: &[u8], offset: usize) -> Step
     requires { ⌜ offset < length (now s) ⌝ }
-    ensures { λ r. ⌜ (said r ≡ at offset (yielding (now (s .entry)) offset)) × (behind r ≡ after (cursor offset false) (at offset (yielding (now (s .entry)) offset))) ⌝ }
+    ensures { λ r. ⌜ Answers r (cursor offset false) (at offset (yielding (now (s .entry)) offset)) ⌝ }
 {
     match element_at(s, offset) {
         Framed::Refused(number) => {
@@ -114,7 +114,7 @@ fn begins(offset: usize, terminator: usize) -> bool
 
 // The step at a cursor: admission 1, 2, 3; an ended cursor ends; 4; the end at the terminator; then the element.
 pub fn next(s: &[u8], cursor: Cursor) -> Step
-    ensures { λ r. ⌜ (said r ≡ step (now (s .entry)) (saidCursor cursor)) × (behind r ≡ after (saidCursor cursor) (step (now (s .entry)) (saidCursor cursor))) ⌝ }
+    ensures { λ r. ⌜ Answers r (saidCursor cursor) (step (now (s .entry)) (saidCursor cursor)) ⌝ }
 {
     let offset = cursor.offset;
     let next = Cursor {

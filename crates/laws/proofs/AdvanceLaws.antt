@@ -1,18 +1,17 @@
 -- How a step goes at each cursor, that it ends only at the terminator, and where the next one begins. Assumes nothing.
-use Prim.Native.Nat.{ℕ, _+_, _-_, _≤_, _<_}
+use Prim.Native.Nat.{ℕ, _≤_, _<_}
 use mathlib.Core.Path.{_≡_, refl, sym, ap, _∙_}
 use mathlib.Core.List.{List}
 use mathlib.Core.Bool.{Bool, true, false, _&&_}
 use mathlib.Core.Logic.{_↔_}
 use native.Mathlib.Omega.{arith}
-use lib.ListN.{length}
 use lib.Dec.{leb, eqb}
 use borrow.Author.Tests.{le-leb, eq-eqb, eqb-true}
 use Rattle.bson.specs.Answer.{Answer, gives, refuses, then, at}
-use Rattle.bson.specs.Step.{terminator, admitted, Cursor, cursor, Element, past, element, Step, yield, end, yielding, step, after}
-use Rattle.laws.proofs.AnswerLaws.{never, gives-injective, unless-gives, then-gives, at-gives}
+use Rattle.bson.specs.Step.{terminator, admitted, Cursor, cursor, Element, past, element, yield, end, yielding, step, after}
+use Rattle.laws.proofs.AnswerLaws.{never}
 use Rattle.laws.proofs.Common.{split}
-use Rattle.laws.proofs.StepLaws.{admitted-says, Yields, step-yields}
+use Rattle.laws.proofs.StepLaws.{admitted-says, step-yields}
 
 -- where a step may begin
 abbrev pub begins : List ℕ → ℕ → Bool
@@ -44,7 +43,8 @@ module _ (s : List ℕ) (m : ℕ) (a : admitted s ≡ gives m) where
       let h : terminator s ≤ terminator s = omega arith in
       rw (a, le-leb 4 (terminator s) l, le-leb (terminator s) (terminator s) h, eq-eqb (terminator s) (terminator s) refl)
 
-  pub step-inside : (offset : ℕ) → begins s offset ≡ true → eqb offset (terminator s) ≡ false → step s (cursor offset false) ≡ at offset (yielding s offset)
+  pub step-inside : (offset : ℕ) → begins s offset ≡ true → eqb offset (terminator s) ≡ false
+      → step s (cursor offset false) ≡ at offset (yielding s offset)
   unfolding step
   step-inside offset b e = rw (a, b, e)
 

@@ -4,7 +4,7 @@ use mathlib.Core.Path.{_≡_, sym, ap, subst, _∙_}
 use mathlib.Core.List.{List}
 use mathlib.Core.Bool.{false, _&&_}
 use native.Mathlib.Omega.{arith}
-use lib.ListN.{length, getD, drop, length-drop}
+use lib.ListN.{length, getD, drop}
 use lib.Dec.{leb, ltb, eqb}
 use borrow.Author.Tests.{leb-true, ltb-true}
 use Rattle.bson.specs.Answer.{Answer, gives}
@@ -17,12 +17,12 @@ use Rattle.bson.specs.Value
 use Rattle.laws.proofs.AnswerLaws.{never, gives-injective, unless-gives, then-gives, then-from, at-gives}
 use Rattle.laws.proofs.BytesLaws.{bytes-length}
 use Rattle.laws.proofs.Common.{split, both-hold}
-use Rattle.laws.proofs.FramingLaws.{string-is, string-least, pointer-is, binary-is, pattern-options-fit}
+use Rattle.laws.proofs.FramingLaws.{string-least, pointer-is, binary-is, pattern-options-fit}
 use Rattle.laws.proofs.TagLaws.{sizeFor, type-sized}
 use Rattle.laws.proofs.StepLaws.{Yields, step-yields}
 use Tags.{ElementType, Boolean, Int32, Double, Int64, DateTime, Timestamp, ObjectId, Decimal128, Null, Undefined, MinKey, MaxKey}
 use Tags.{String, JavaScriptCode, Symbol, DbPointer, EmbeddedDocument, Array, Binary, RegularExpression, JavaScriptCodeWithScope, typeOf}
-use Value.{Leaf, Value, leaf, document, array, codeWithScope, asLeaf, bool, timestampOf, text, binaryValue, scopeValue, content, valueIn, valueOf}
+use Value.{Leaf, Value, leaf, asLeaf, bool, timestampOf, text, binaryValue, scopeValue, content, valueIn, valueOf}
 use Value.{string, code, symbol, dbPointer, yielded, elementAt, readAt, partsOf}
 
 -- a part ends in a slice of this length

@@ -1,5 +1,7 @@
 -- Determined: the promise of each call allows one answer (document 01, "What every answer is bound to"). Assumes nothing.
+use Prim.Native.Nat.{ℕ}
 use mathlib.Core.Path.{_≡_, refl, sym, _∙_}
+use Rattle.bson.specs.Answer.{Answer}
 use contract.Lifetimes.{Lfts}
 use borrow.Fn.Kinds.{Dens}
 use Rattle.laws.proofs.Determined.{Determined, injective-by, unsaidAt}
@@ -58,9 +60,12 @@ get-i64-determined κs a r₁ r₂ s₁ s₂ p q = injective-by saidI64 (unsaidA
 pub get-datetime-determined : (κs : Lfts 2) (a : Dens κs get-datetime-kinds.ps) → Determined (get-datetime-reads.Post κs a)
 get-datetime-determined κs a r₁ r₂ s₁ s₂ p q = injective-by saidI64 (unsaidAt i64.Is i64.Refused) i64-again r₁ r₂ (p ∙ sym q)
 
-timestamp-again : (r : Timestamp) → unsaidAt (λ t. timestamp.Is (t .0) (t .1)) timestamp.Refused (saidTimestamp r) ≡ r
+abbrev timestamp-back : Answer (ℕ × ℕ) → Timestamp
+timestamp-back = unsaidAt (λ t. timestamp.Is (t .0) (t .1)) timestamp.Refused
+
+timestamp-again : (r : Timestamp) → timestamp-back (saidTimestamp r) ≡ r
 timestamp-again (timestamp.Is increment seconds) = refl
 timestamp-again (timestamp.Refused number place) = refl
 
 pub get-timestamp-determined : (κs : Lfts 2) (a : Dens κs get-timestamp-kinds.ps) → Determined (get-timestamp-reads.Post κs a)
-get-timestamp-determined κs a r₁ r₂ s₁ s₂ p q = injective-by saidTimestamp (unsaidAt (λ t. timestamp.Is (t .0) (t .1)) timestamp.Refused) timestamp-again r₁ r₂ (p ∙ sym q)
+get-timestamp-determined κs a r₁ r₂ s₁ s₂ p q = injective-by saidTimestamp timestamp-back timestamp-again r₁ r₂ (p ∙ sym q)

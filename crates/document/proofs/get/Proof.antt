@@ -27,7 +27,9 @@ returns c = rw (answered said (c .before .before .before .get-element .ensures) 
 
 returns-2 : tie.Need-returns-2
 unfolding getBytes
-returns-2 c = rw (answered said (c .before .before .before .before .before .get-element .ensures) (c .before .before .before .element .given .1)) (c .bytes-of .ensures)
+returns-2 c =
+    let b = c .before .before .before in
+    rw (answered said (b .before .before .get-element .ensures) (b .element .given .1)) (c .bytes-of .ensures)
 
 pub get-spec : {M : Type 1} → statement M
 get-spec =

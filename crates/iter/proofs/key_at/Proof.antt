@@ -1,6 +1,5 @@
 -- `iter::key_at` meets its contract: the key of what the step yields, else nothing. Assumes nothing.
-use mathlib.Core.Path.{sym, ap, _∙_}
-use Rattle.bson.specs.Step.{keyOf, keyAt}
+use Rattle.bson.specs.Step.{keyAt}
 use Rattle.laws.proofs.AnswerLaws.{answered}
 use Rattle.iter.specs.Said.{said}
 use borrow.Author.Needs.{needs}
