@@ -4,11 +4,11 @@ use mathlib.Core.List.{List, [], _∷_}
 use mathlib.Core.Bool.{true, false, cond}
 use lib.ListN.{length}
 use Rattle.bson.specs.Answer.{Answer, gives, refuses, then}
-use Rattle.bson.specs.Step.{cursor, step}
+use Rattle.bson.specs.Step.{cursor, step, keyAt}
 use Rattle.bson.specs.Bytes.{le32}
-use Rattle.bson.specs.Value.{first, second, valueOf, readAt, readWith, partAt}
+use Rattle.bson.specs.Value.{first, second, bool, valueOf, readAt, readWith, partAt}
 use Rattle.bson.specs.Vectors.{elem}
-use Rattle.bson.specs.Lookup.{get, getBytes, getWith, isEmpty}
+use Rattle.bson.specs.Lookup.{get, getBytes, getWith, typed, getPart, isEmpty}
 use Rattle.bson.specs.Check.{check}
 
 -- an answer of which only the refusal matters
@@ -87,6 +87,13 @@ points =
     ∷ (gives (length (partAt oldBinary 4 0x02 first)), gives 0)
     ∷ (gives (le32 (partAt regexOf 4 0x0B first)), gives 0x61)
     ∷ (gives (le32 (partAt regexOf 4 0x0B second)), gives 0x69)
+    -- the key that a step yields, and none at the terminator
+    ∷ (gives (le32 (keyAt twoKeys (cursor 8 false))), gives 0x61)
+    ∷ (gives (length (keyAt twoKeys (cursor 12 false))), gives 0)
+    -- what typed getters give: a part, a number
+    ∷ (gives (le32 (getPart regexOf [] 0x0B second)), gives 0x69)
+    ∷ (gives (length (getPart regexOf [] 0x02 first)), gives 0)
+    ∷ (then (typed bool twoKeys (0x61 ∷ []) 0x08) (λ b. gives (cond b 1 0)), gives 0)
     -- the framed bytes that a lookup hands back
     ∷ (gives (length (getBytes oldBinary [])), gives 10)
     -- a strict array key: ASCII digits, one or more

@@ -5,8 +5,8 @@ use mathlib.Core.Bool.{Bool, cond}
 use lib.Dec.{eqb}
 use Rattle.bson.specs.Answer.{Answer, gives, refuses, then, at}
 use Rattle.bson.specs.Bytes.{bytes, same}
-use Rattle.bson.specs.Step.{terminator, admitted, Element, Iteration, ended, broken, more, iterate}
-use Rattle.bson.specs.Value.{Value, valueOf, ofTag, Which, partOf, handed}
+use Rattle.bson.specs.Step.{terminator, admitted, Element, handed, Iteration, ended, broken, more, iterate}
+use Rattle.bson.specs.Value.{Value, valueOf, ofTag, Which, partOf}
 
 -- what a lookup finds: the element and its value
 pub record Found : Type 0 where

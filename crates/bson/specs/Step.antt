@@ -51,6 +51,7 @@ pub data Step : Type 0 where
   yield : Element → Step
   end : Step
 
+-- the step at an element
 abbrev pub yielding : List ℕ → ℕ → Answer Step
 yielding s p = then (element s p) λ e. gives (yield e)
 
@@ -70,14 +71,23 @@ after c (gives (yield e)) = cursor (past e) false
 after c (gives end) = cursor (c .offset) true
 after c (refuses n p) = cursor (c .offset) true
 
--- the key that a step yields, as bytes of the slice; none where it yields nothing
-abbrev pub keyOf : List ℕ → Answer Step → List ℕ
-keyOf s (gives (yield e)) = bytes s (e .key)
-keyOf s (gives end) = []
-keyOf s (refuses n p) = []
+-- the element that a step yields; "place is the terminator" 16
+abbrev pub yielded : ℕ → Step → Answer Element
+yielded place (yield e) = gives e
+yielded place end = refuses 16 place
 
+-- "a call that hands back a part has a twin [..]; where the twin refuses, the part is empty"
+abbrev pub handed : List ℕ → Answer Part → List ℕ
+handed s (gives p) = bytes s p
+handed s (refuses n p) = []
+
+-- the key that a step yields; the twin is the step
 unfoldable pub keyAt : List ℕ → Cursor → List ℕ
-keyAt s c = keyOf s (step s c)
+keyAt s c =
+    handed s
+    (then (step s c) λ x.
+    then (yielded (c .offset) x) λ e.
+    gives (e .key))
 
 -- iteration: the elements that steps yield one after the other, and how they end: at the terminator, or refused
 pub data Iteration : Type 0 where

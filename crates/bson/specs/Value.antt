@@ -1,16 +1,16 @@
 -- Values: what a framed element holds, and reading at a place (document 01, "Values").
 use Prim.Native.Nat.{ℕ, _+_, _-_}
-use mathlib.Core.List.{List, []}
+use mathlib.Core.List.{List}
 use mathlib.Core.Bool.{Bool, false, cond, _&&_}
 use lib.ListN.{length, getD, drop}
 use lib.Dec.{leb, ltb, eqb}
 use lib.IntN.{ℤ}
-use Rattle.bson.specs.Answer.{Answer, gives, refuses, then, unless, at}
+use Rattle.bson.specs.Answer.{Answer, gives, then, unless, at}
 use Rattle.bson.specs.Bytes.{le32, le64, i32, i64, Part, part, bytes, trim}
 use Rattle.bson.specs.Utf8.{utf8}
 use Rattle.bson.specs.Tags
 use Rattle.bson.specs.Framing.{inFront, stringSize, patternOptions}
-use Rattle.bson.specs.Step.{admitted, cursor, Element, Step, yield, end, step}
+use Rattle.bson.specs.Step.{admitted, cursor, Element, step, yielded, handed}
 use Tags.{ElementType, Boolean, Int32, Double, Int64, DateTime, Timestamp, ObjectId, Decimal128, Null, Undefined, MinKey, MaxKey}
 use Tags.{String, JavaScriptCode, Symbol, DbPointer, EmbeddedDocument, Array, Binary, RegularExpression, JavaScriptCodeWithScope, typeOf}
 
@@ -111,11 +111,7 @@ valueOf s e = at (e .place) (valueIn s (e .tag) (e .value))
 abbrev pub ofTag : {A : Type 0} → Element → ℕ → A → Answer A
 ofTag e tag a = at (e .place) (unless (eqb (e .tag) tag) 17 (gives a))
 
--- "a value read takes a document and a place, steps there first, then reads"; "place is the terminator" 16
-abbrev pub yielded : ℕ → Step → Answer Element
-yielded place (yield e) = gives e
-yielded place end = refuses 16 place
-
+-- "a value read takes a document and a place, steps there first, then reads"
 unfoldable pub elementAt : List ℕ → ℕ → Answer Element
 elementAt s place = then (step s (cursor place false)) (yielded place)
 
@@ -129,10 +125,11 @@ readWith s place tag =
     then (valueOf s e) λ v.
     ofTag e tag v
 
--- the parts of a value that a call can hand back, first and second in the order in which they lie; a number has none
+-- a part that a value has not
 abbrev pub none : Part
 none = part 0 0
 
+-- the parts of a value that a call can hand back, first and second in the order in which they lie
 unfoldable pub partsOf : Value → Part × Part
 partsOf (leaf (boolean b)) = (none, none)
 partsOf (leaf (int32 n)) = (none, none)
@@ -162,11 +159,6 @@ pub data Which : Type 0 where
 abbrev pub partOf : Which → Value → Part
 partOf first v = partsOf v .0
 partOf second v = partsOf v .1
-
--- "a call that hands back a part has a twin [..]; where the twin refuses, the part is empty"
-abbrev pub handed : List ℕ → Answer Part → List ℕ
-handed s (gives p) = bytes s p
-handed s (refuses n p) = []
 
 -- the twin is `readWith`
 unfoldable pub partAt : List ℕ → ℕ → ℕ → Which → List ℕ

@@ -1,4 +1,4 @@
--- What a value opens: it lies inside the value, and is a document by itself. Assumes nothing.
+-- What a value opens: it lies inside the value, and is a document by itself (document 01, "Values"). Assumes nothing.
 use Prim.Native.Nat.{ℕ, _+_, _-_, _≤_, _<_}
 use mathlib.Core.Path.{_≡_, refl, sym, ap, subst, _∙_}
 use mathlib.Core.List.{List}
@@ -18,7 +18,7 @@ use Rattle.bson.specs.Value
 use Rattle.laws.proofs.AnswerLaws.{gives-injective, unless-gives, then-gives, then-from, at-gives}
 use Rattle.laws.proofs.BytesLaws.{bytes-length, bytes-trim}
 use Rattle.laws.proofs.Common.{split}
-use Rattle.laws.proofs.FramingLaws.{document-is, document-least}
+use Rattle.laws.proofs.FramingLaws.{string-least, document-is, document-least}
 use Rattle.laws.proofs.TagLaws.{sizeFor, type-sized}
 use Rattle.laws.proofs.StepLaws.{admitted-says, Yields}
 use Tags.{ElementType, Boolean, Int32, Double, Int64, DateTime, Timestamp, ObjectId, Decimal128, Null, Undefined, MinKey, MaxKey}
@@ -68,16 +68,16 @@ module _ (P : Value → Type 0) (leafy : (x : Leaf) → P (leaf x)) (v : Value) 
     content-case RegularExpression f e = let (r, q, g) = then-gives (patternOptions (bytes s w)) _ e in leaf-case g
     content-case JavaScriptCodeWithScope f e = of-scope e
 
--- what a scope that is read says: where it starts, and that it is admitted
+-- what a code with scope that is read says: where its scope starts, that this is admitted, and where its code lies
 pub record Scoped (b : List ℕ) (w : Part) (v : Value) : Type 0 where
   pub start : ℕ
   pub length-of : ℕ
-  pub code : Part
+  pub least : 9 ≤ start
   pub before : start < length b
   pub admits : admitted (drop start b) ≡ gives length-of
-  pub is : codeWithScope code (trim start 0 w) ≡ v
+  pub is : codeWithScope (part (w .offset + 8) (start - 9)) (trim start 0 w) ≡ v
 
-scope-says : (b : List ℕ) (w : Part) (v : Value) → scopeValue b w ≡ gives v → Scoped b w v
+pub scope-says : (b : List ℕ) (w : Part) (v : Value) → scopeValue b w ≡ gives v → Scoped b w v
 unfolding scopeValue
 scope-says b w v e =
     let (t, e1) = unless-gives (leb 14 (length b)) 12 _ e in
@@ -85,7 +85,16 @@ scope-says b w v e =
     let (u, e3) = unless-gives (utf8 (bytes b (part 8 (n - 5)))) 6 _ e2 in
     let (l, e4) = unless-gives (ltb (4 + n) (length b)) 12 _ e3 in
     let (k, a, e5) = then-gives (admitted (drop (4 + n) b)) _ e4 in
-    record { start = 4 + n; length-of = k; code = _; before = ltb-true (4 + n) (length b) l; admits = a; is = gives-injective e5 }
+    let z = string-least (drop 4 b) n q in
+    let m : n - 5 ≡ 4 + n - 9 = omega arith in
+    record {
+      start = 4 + n;
+      length-of = k;
+      least = omega arith;
+      before = ltb-true (4 + n) (length b) l;
+      admits = a;
+      is = ap (λ (x : ℕ). codeWithScope (part (w .offset + 8) x) (trim (4 + n) 0 w)) (sym m) ∙ gives-injective e5;
+    }
 
 -- a document inside a value
 pub record Opens (whole inner : Part) : Type 0 where
@@ -163,16 +172,21 @@ scope-admits s w v h e =
     subst (Admits s) (r .is) (ap admitted (bytes-trim s w (r .start) h j) ∙ r .admits ∙ ap gives z)
 
 module _ (s : List ℕ) (c : Cursor) (e : Element) (y : Yields s c e) (v : Value) where
+  -- it is what its part holds of the type that framed it
+  pub value-content : valueOf s e ≡ gives v
+      → (t : ElementType) × (framed (sizeFor t) (drop (e .value .offset) s) ≡ gives (e .value .size)) × (content s (e .value) t ≡ gives v)
+  unfolding valueOf valueIn valueSize
+  value-content x =
+      let (u, x1) = unless-gives (leb (past e) (length s)) 9 _ (at-gives (e .place) _ x) in
+      let (t, q, h) = then-gives (typeOf (e .tag)) _ x1 in
+      (t, sym (then-from _ _ (type-sized (e .tag) t q)) ∙ y .value-is, h)
+
   value-case : (P : Value → Type 0) → ((x : Leaf) → P (leaf x))
       → (documentSize (drop (e .value .offset) s) ≡ gives (e .value .size) → P (document (e .value)))
       → (documentSize (drop (e .value .offset) s) ≡ gives (e .value .size) → P (array (e .value)))
       → (scopeValue (bytes s (e .value)) (e .value) ≡ gives v → P v)
       → valueOf s e ≡ gives v → P v
-  unfolding valueOf valueIn valueSize
-  value-case P l d a z x =
-      let (u, x1) = unless-gives (leb (past e) (length s)) 9 _ (at-gives (e .place) _ x) in
-      let (t, q, h) = then-gives (typeOf (e .tag)) _ x1 in
-      content-case P l v s (e .value) d a z t (sym (then-from _ _ (type-sized (e .tag) t q)) ∙ y .value-is) h
+  value-case P l d a z x = let (t, f, h) = value-content x in content-case P l v s (e .value) d a z t f h
 
   -- what the value of a yielded element opens lies inside it
   pub value-within : valueOf s e ≡ gives v → Within (e .value) v

@@ -1,29 +1,30 @@
--- The parts of a value that a reading gives lie in the slice. Assumes nothing.
+-- The parts of a value that a reading gives lie in the slice (document 01, "Values"). Assumes nothing.
 use Prim.Native.Nat.{ℕ, _+_, _-_, _≤_}
-use mathlib.Core.Path.{_≡_, sym, ap, subst, _∙_}
+use mathlib.Core.Path.{_≡_, ap, subst, _∙_}
 use mathlib.Core.List.{List}
 use mathlib.Core.Bool.{false, _&&_}
 use native.Mathlib.Omega.{arith}
 use lib.ListN.{length, getD, drop}
-use lib.Dec.{leb, ltb, eqb}
-use borrow.Author.Tests.{leb-true, ltb-true}
+use lib.Dec.{leb, eqb}
+use borrow.Author.Tests.{leb-true}
 use Rattle.bson.specs.Answer.{Answer, gives}
-use Rattle.bson.specs.Bytes.{le32, le64, i32, i64, Part, part, bytes, trim}
+use Rattle.bson.specs.Bytes.{le32, le64, i32, i64, Part, bytes, trim}
 use Rattle.bson.specs.Utf8.{utf8}
 use Rattle.bson.specs.Tags
-use Rattle.bson.specs.Framing.{inFront, stringSize, patternOptions, framed, valueSize}
-use Rattle.bson.specs.Step.{admitted, Cursor, cursor, Element, past, Step, yield, end, step}
+use Rattle.bson.specs.Framing.{inFront, patternOptions, framed}
+use Rattle.bson.specs.Step.{Cursor, cursor, Element, Step, yield, end, step, yielded}
 use Rattle.bson.specs.Value
-use Rattle.laws.proofs.AnswerLaws.{never, gives-injective, unless-gives, then-gives, then-from, at-gives}
+use Rattle.laws.proofs.AnswerLaws.{never, gives-injective, unless-gives, then-gives}
 use Rattle.laws.proofs.BytesLaws.{bytes-length}
 use Rattle.laws.proofs.Common.{split, both-hold}
 use Rattle.laws.proofs.FramingLaws.{string-least, pointer-is, binary-is, pattern-options-fit}
-use Rattle.laws.proofs.TagLaws.{sizeFor, type-sized}
+use Rattle.laws.proofs.TagLaws.{sizeFor}
 use Rattle.laws.proofs.StepLaws.{Yields, step-yields}
+use Rattle.laws.proofs.OpenLaws.{scope-says, value-content}
 use Tags.{ElementType, Boolean, Int32, Double, Int64, DateTime, Timestamp, ObjectId, Decimal128, Null, Undefined, MinKey, MaxKey}
-use Tags.{String, JavaScriptCode, Symbol, DbPointer, EmbeddedDocument, Array, Binary, RegularExpression, JavaScriptCodeWithScope, typeOf}
-use Value.{Leaf, Value, leaf, asLeaf, bool, timestampOf, text, binaryValue, scopeValue, content, valueIn, valueOf}
-use Value.{string, code, symbol, dbPointer, yielded, elementAt, readAt, partsOf}
+use Tags.{String, JavaScriptCode, Symbol, DbPointer, EmbeddedDocument, Array, Binary, RegularExpression, JavaScriptCodeWithScope}
+use Value.{Leaf, Value, leaf, asLeaf, bool, timestampOf, text, binaryValue, scopeValue, content, valueOf}
+use Value.{string, code, symbol, dbPointer, elementAt, readAt, partsOf}
 
 -- a part ends in a slice of this length
 abbrev pub Ends : ℕ → Part → Type 0
@@ -66,17 +67,11 @@ module _ (s : List ℕ) (w : Part) (v : Value) (inside : w .offset + w .size ≤
       known (length s) v _ h (omega (arith, bytes-length s w inside), omega (arith, bytes-length s w inside))
 
   of-scope : scopeValue (bytes s w) w ≡ gives v → BothEnd (length s) v
-  unfolding scopeValue partsOf
+  unfolding partsOf
   of-scope e =
-      let b = bytes s w in
-      let (t, e1) = unless-gives (leb 14 (length b)) 12 _ e in
-      let (n, q, e2) = then-gives (stringSize (drop 4 b)) _ e1 in
-      let (u, e3) = unless-gives (utf8 (bytes b (part 8 (n - 5)))) 6 _ e2 in
-      let (l, e4) = unless-gives (ltb (4 + n) (length b)) 12 _ e3 in
-      let (k, a, e5) = then-gives (admitted (drop (4 + n) b)) _ e4 in
-      let h = ltb-true (4 + n) (length b) l in
-      let z = string-least (drop 4 b) n q in
-      known (length s) v _ e5 (omega (arith, bytes-length s w inside), omega (arith, bytes-length s w inside))
+      let r = scope-says (bytes s w) w v e in
+      let i = bytes-length s w inside in
+      subst (BothEnd (length s)) (r .is) (omega arith, omega arith)
 
   content-parts : (t : ElementType) → framed (sizeFor t) (drop (w .offset) s) ≡ gives (w .size) → content s w t ≡ gives v → BothEnd (length s) v
   unfolding content framed partsOf
@@ -106,11 +101,9 @@ module _ (s : List ℕ) (w : Part) (v : Value) (inside : w .offset + w .size ≤
 
 -- both parts of a value that is read from a yielded element end in the slice
 pub parts-inside : (s : List ℕ) (c : Cursor) (e : Element) → Yields s c e → (v : Value) → valueOf s e ≡ gives v → BothEnd (length s) v
-unfolding valueOf valueIn valueSize
 parts-inside s c e y v x =
-    let (u, x1) = unless-gives (leb (past e) (length s)) 9 _ (at-gives (e .place) _ x) in
-    let (t, q, h) = then-gives (typeOf (e .tag)) _ x1 in
-    content-parts s (e .value) v (y .inside) t (sym (then-from _ _ (type-sized (e .tag) t q)) ∙ y .value-is) h
+    let (t, f, h) = value-content s c e y v x in
+    content-parts s (e .value) v (y .inside) t f h
 
 yielded-is : (place : ℕ) (x : Step) (e : Element) → yielded place x ≡ gives e → x ≡ yield e
 yielded-is place (yield d) e h = ap yield (gives-injective h)

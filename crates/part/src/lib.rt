@@ -1,4 +1,4 @@
-// A part of a slice, as an offset and a size.
+// A part of a slice, as an offset and a size (document 01, "What must change shape").
 ghost use mathlib.Core.Path.{_≡_};
 ghost use Rattle.bson.specs.Bytes.{bytes};
 ghost use Rattle.part.specs.Said.{said};

@@ -1,5 +1,5 @@
-// The parts of a value at a place, each as a part of the lent slice. The twin of each is `reading::read_with` with its tag; where
-// that refuses, the part is empty.
+// The parts of a value at a place, each as a part of the lent slice (document 01, "Values" and "What must change shape"). The twin
+// of each is `reading::read_with` with its tag; where that refuses, the part is empty.
 ghost use mathlib.Core.Path.{_≡_};
 ghost use Rattle.bson.specs.Value.{first, second, partAt};
 use reading::Which;

@@ -1,4 +1,4 @@
-// Reading a value at a place, and the parts of a value (`RawElement::value` in src/raw/iter.rs of the Rust).
+// Reading a value at a place, and the parts of a value (document 01, "Values"; `RawElement::value` in src/raw/iter.rs of the Rust).
 ghost use mathlib.Core.Path.{_≡_};
 ghost use Rattle.bson.specs.Value.{valueOf, elementAt, readAt, readWith, ofTag, partsOf, partOf, partAt};
 ghost use Rattle.bson.specs.Answer.{then};

@@ -1,4 +1,5 @@
-// Typed lookup of numbers: `get_f64` and its like (src/raw/document.rs of the Rust). Each refuses with 16, the value's refusal, then 17.
+// Typed lookup of numbers: `get_f64` and its like (document 01, "Values"; src/raw/document.rs of the Rust). Each refuses with 16, the
+// value's refusal, then 17.
 ghost use mathlib.Core.Path.{_≡_};
 ghost use Rattle.bson.specs.Bytes.{le64, i32, i64};
 ghost use Rattle.bson.specs.Framing.{inFront};

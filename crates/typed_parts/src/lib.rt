@@ -1,5 +1,5 @@
-// Typed lookup of parts: `get_str` and its like (src/raw/document.rs of the Rust). Each hands back a part of the document; its
-// twin is `document::get_with` with the same tag, and where that refuses, the part is empty.
+// Typed lookup of parts: `get_str` and its like (document 01, "Values"; src/raw/document.rs of the Rust). Each hands back a part of
+// the document; its twin is `document::get_with` with the same tag, and where that refuses, the part is empty.
 ghost use mathlib.Core.Path.{_≡_};
 ghost use Rattle.bson.specs.Value.{first};
 ghost use Rattle.bson.specs.Lookup.{getPart};

@@ -1,4 +1,4 @@
-// What a framed value holds (src/raw/value.rs of the Rust).
+// What a framed value holds (document 01, "Values"; src/raw/value.rs of the Rust).
 ghost use Prim.Native.Nat.{_+_, _-_, _<_, _≤_};
 ghost use mathlib.Core.Path.{_≡_};
 ghost use mathlib.Core.Bool.{_&&_};
