@@ -9,9 +9,11 @@ use Rattle.bson.specs.Framing.{patternOptions, regexSize, framed, valueS
 use Rattle.bson.specs.Step.{admitted, element, step, keyAt, iterateFor, iterate}
 use Rattle.bson.specs.Value.{bool, timestampOf, text, binaryValue, scopeValue, content, valueIn, valueOf, elementAt, readAt, readWith, partsOf, partAt}
 use Rattle.bson.specs.Lookup.{found, get, getBytes, getWith, getPart, isEmpty}
-use Rattle.bson.specs.Check.{goodArrayKey, visit, walkFor, walk, check}
+use Rattle.bson.specs.ArrayKey.{goodArrayKey}
+use Rattle.bson.specs.Level.{opening}
+use Rattle.bson.specs.Check.{visit, opened, walkFor, walk, check}
 use Rattle.bson.specs.Decided.{points, saidOf, settledOf}
 
 pub decided-hold : saidOf points ≡ settledOf points
-unfolding le32 le64 signed i32 i64 bytes rows utf8 cstring tags rowOf lengthField fits zeroEnded stringSize pointerSize documentSize binarySize scopeSize patternOptions regexSize framed valueSize admitted element step keyAt iterateFor iterate bool timestampOf text binaryValue scopeValue content valueIn valueOf elementAt readAt readWith partsOf partAt found get getBytes getWith getPart isEmpty goodArrayKey visit walkFor walk check points
+unfolding le32 le64 signed i32 i64 bytes rows utf8 cstring tags rowOf lengthField fits zeroEnded stringSize pointerSize documentSize binarySize scopeSize patternOptions regexSize framed valueSize admitted element step keyAt iterateFor iterate bool timestampOf text binaryValue scopeValue content valueIn valueOf elementAt readAt readWith partsOf partAt found get getBytes getWith getPart isEmpty goodArrayKey opening visit opened walkFor walk check points
 decided-hold = refl

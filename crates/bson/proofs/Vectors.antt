@@ -9,9 +9,10 @@ use Rattle.bson.specs.Framing.{patternOptions, regexSize, framed, valueS
 use Rattle.bson.specs.Step.{admitted, element, step, iterateFor, iterate}
 use Rattle.bson.specs.Value.{bool, timestampOf, text, binaryValue, scopeValue, content, valueIn, valueOf, elementAt, readAt}
 use Rattle.bson.specs.Lookup.{found, get}
-use Rattle.bson.specs.Check.{visit, walkFor, walk, check}
+use Rattle.bson.specs.Level.{opening}
+use Rattle.bson.specs.Check.{visit, opened, walkFor, walk, check}
 use Rattle.bson.specs.Vectors.{vectors, says}
 
 pub vectors-hold : says vectors ≡ vectors
-unfolding le32 le64 signed i32 i64 bytes rows utf8 cstring tags rowOf lengthField fits zeroEnded stringSize pointerSize documentSize binarySize scopeSize patternOptions regexSize framed valueSize admitted element step iterateFor iterate bool timestampOf text binaryValue scopeValue content valueIn valueOf elementAt readAt found get visit walkFor walk check vectors
+unfolding le32 le64 signed i32 i64 bytes rows utf8 cstring tags rowOf lengthField fits zeroEnded stringSize pointerSize documentSize binarySize scopeSize patternOptions regexSize framed valueSize admitted element step iterateFor iterate bool timestampOf text binaryValue scopeValue content valueIn valueOf elementAt readAt found get opening visit opened walkFor walk check vectors
 vectors-hold = refl

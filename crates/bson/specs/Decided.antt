@@ -1,6 +1,6 @@
 -- Points that document 01 leaves open, as docs/DECISIONS.md settles them, and a zero byte met as a tag, each by bytes that show it.
 use Prim.Native.Nat.{ℕ}
-use mathlib.Core.List.{List, [], _∷_}
+use mathlib.Core.List.{List, [], _∷_, _++_}
 use mathlib.Core.Bool.{true, false, cond}
 use lib.ListN.{length}
 use Rattle.bson.specs.Answer.{Answer, gives, refuses, then}
@@ -9,7 +9,7 @@ use Rattle.bson.specs.Bytes.{le32}
 use Rattle.bson.specs.Value.{first, second, bool, valueOf, readAt, readWith, partAt}
 use Rattle.bson.specs.Vectors.{elem}
 use Rattle.bson.specs.Lookup.{get, getBytes, getWith, typed, getPart, isEmpty}
-use Rattle.bson.specs.Check.{check}
+use Rattle.bson.specs.Check.{walk, check}
 
 -- an answer of which only the refusal matters
 abbrev pub given : {A : Type 0} → Answer A → Answer ℕ
@@ -42,11 +42,26 @@ oldBinary = 0x11 ∷ 0 ∷ 0 ∷ 0 ∷ 0x05 ∷ 0 ∷ 0x05 ∷ 0 ∷ 0 ∷ 0 ∷
 abbrev pub regexOf : List ℕ
 regexOf = 0x0B ∷ 0 ∷ 0 ∷ 0 ∷ 0x0B ∷ 0 ∷ 0x61 ∷ 0 ∷ 0x69 ∷ 0 ∷ 0 ∷ []
 
+-- a document of one null, its length 7
+abbrev pub oneNull : List ℕ
+oneNull = 0x07 ∷ 0 ∷ 0 ∷ 0 ∷ 0x0A ∷ 0 ∷ 0 ∷ []
+
+-- that document within another, and as the scope of an empty code
+abbrev pub nullWithin : List ℕ
+nullWithin = 0x0E ∷ 0 ∷ 0 ∷ 0 ∷ 0x03 ∷ 0 ∷ oneNull ++ (0 ∷ [])
+
+abbrev pub nullInScope : List ℕ
+nullInScope = 0x17 ∷ 0 ∷ 0 ∷ 0 ∷ 0x0F ∷ 0 ∷ 0x10 ∷ 0 ∷ 0 ∷ 0 ∷ 0x01 ∷ 0 ∷ 0 ∷ 0 ∷ 0 ∷ oneNull ++ (0 ∷ [])
+
+-- the plain check of a document whose values have this depth
+abbrev pub walkAt : ℕ → List ℕ → Answer ℕ
+walkAt depth s = walk false s (record { isArray = false; base = 0; depth = depth })
+
 -- what the definition says, and what was settled
 unfoldable pub points : List (Answer ℕ × Answer ℕ)
 points =
     -- values inside a scope are counted
-    (check false (0x17 ∷ 0 ∷ 0 ∷ 0 ∷ 0x0F ∷ 0 ∷ 0x10 ∷ 0 ∷ 0 ∷ 0 ∷ 0x01 ∷ 0 ∷ 0 ∷ 0 ∷ 0 ∷ 0x07 ∷ 0 ∷ 0 ∷ 0 ∷ 0x0A ∷ 0 ∷ 0 ∷ 0 ∷ []), gives 2)
+    (check false nullInScope, gives 2)
     -- bad code text and bad scope: the order of the text
     ∷ (check false (0x15 ∷ 0 ∷ 0 ∷ 0 ∷ 0x0F ∷ 0 ∷ 0x0E ∷ 0 ∷ 0 ∷ 0 ∷ 0x02 ∷ 0 ∷ 0 ∷ 0 ∷ 0xFF ∷ 0 ∷ 0 ∷ 0 ∷ 0 ∷ 0 ∷ 0 ∷ []), refuses 6 4)
     -- a scope's own 2 stands at the tag byte
@@ -111,6 +126,18 @@ points =
     -- data of subtype 2: one byte behind its length, and under four bytes
     ∷ (check false oldBinary, gives 1)
     ∷ (check false (0x0F ∷ 0 ∷ 0 ∷ 0 ∷ 0x05 ∷ 0 ∷ 0x03 ∷ 0 ∷ 0 ∷ 0 ∷ 0x02 ∷ 0 ∷ 0 ∷ 0 ∷ 0 ∷ []), refuses 12 4)
+    -- a value of depth 200, and of 201; inside a document one level deeper, inside a scope two
+    ∷ (walkAt 200 oneNull, gives 1)
+    ∷ (walkAt 201 oneNull, refuses 13 4)
+    ∷ (walkAt 199 nullWithin, gives 2)
+    ∷ (walkAt 200 nullWithin, refuses 13 10)
+    ∷ (walkAt 198 nullInScope, gives 2)
+    ∷ (walkAt 199 nullInScope, refuses 13 19)
+    -- reading comes before the depth, and an empty document may lie deeper
+    ∷ (walkAt 201 badBoolean, refuses 11 4)
+    ∷ (walkAt 202 empty, gives 0)
+    -- the key of an array comes before reading
+    ∷ (check true (0x0F ∷ 0 ∷ 0 ∷ 0 ∷ 0x04 ∷ 0 ∷ badBoolean ++ (0 ∷ [])), refuses 19 10)
     ∷ []
 
 abbrev pub saidOf : List (Answer ℕ × Answer ℕ) → List (Answer ℕ)

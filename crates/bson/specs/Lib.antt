@@ -7,6 +7,8 @@ pub mod Framing
 pub mod Step
 pub mod Value
 pub mod Lookup
+pub mod ArrayKey
+pub mod Level
 pub mod Check
 pub mod Vectors
 pub mod Decided

@@ -1,48 +1,67 @@
--- The walk of the whole check goes on from document to document; its fuel never runs out. Assumes nothing.
-use Prim.Native.Nat.{ℕ, zero, suc, _+_, _<_}
-use mathlib.Core.Path.{_≡_, refl, _∙_}
+-- The walk of the whole check goes from step to step and into what values open; its fuel never runs out, and its count is small (document
+-- 01, "The whole check"). Assumes nothing.
+use Prim.Native.Nat.{ℕ, zero, suc, _+_, _-_, _≤_, _<_}
+use mathlib.Core.Path.{_≡_, refl, sym, ap, _∙_}
 use mathlib.Core.List.{List}
-use mathlib.Core.Bool.{Bool, not, _&&_, _||_}
+use mathlib.Core.Bool.{Bool, true, false, not, _&&_, _||_}
 use native.Mathlib.Omega.{arith}
 use lib.ListN.{length}
 use lib.Dec.{leb}
-use Rattle.bson.specs.Answer.{gives}
-use Rattle.bson.specs.Bytes.{bytes}
-use Rattle.bson.specs.Step.{Cursor, Element, Iteration, ended, broken, more, iterate}
-use Rattle.bson.specs.Value.{Value, leaf, document, array, codeWithScope, valueOf}
-use Rattle.bson.specs.Check.{goodArrayKey, Level, Walk, inside, visit, along, walkFor, walk}
-use Rattle.laws.proofs.AnswerLaws.{unless-gives, then-gives, then-same, at-gives}
-use Rattle.laws.proofs.StepLaws.{Yields, Each, iterate-each}
-use Rattle.laws.proofs.OpenLaws.{Within, value-within, opens-shorter}
+use borrow.Author.Tests.{leb-true, le-leb}
+use Rattle.bson.specs.Answer.{Answer, gives, refuses, then}
+use Rattle.bson.specs.Bytes.{Part, bytes}
+use Rattle.bson.specs.Step.{Cursor, cursor, Element, past, yield, end, step, Iteration, ended, broken, more, onward, iterate}
+use Rattle.bson.specs.Value.{Value, valueOf}
+use Rattle.bson.specs.ArrayKey.{goodArrayKey}
+use Rattle.bson.specs.Level.{Opening, closed, opens, opening, Level, deeper}
+use Rattle.bson.specs.Check.{Walk, visit, inside, opened, along, walkFor, walk}
+use Rattle.laws.proofs.AnswerLaws.{never, gives-injective, unless-gives, then-gives, then-same, at-gives}
+use Rattle.laws.proofs.StepLaws.{Yields, iterate-eq, Each, iterate-each}
+use Rattle.laws.proofs.OpenLaws.{value-opens, opens-shorter}
 
-module _ (s : List ℕ) (c : Cursor) (e : Element) (y : Yields s c e) where
-  -- walks that agree on shorter lists go inside alike
-  inside-same : (w x : Walk) (l : Level) → ((v : List ℕ) (k : Level) → length v < length s → w v k ≡ x v k)
-      → (v : Value) → Within (e .value) v → inside w s l v ≡ inside x s l v
-  inside-same w x l h (leaf v) o = refl
-  inside-same w x l h (document p) o = h _ _ (omega (arith, opens-shorter s c e y p o))
-  inside-same w x l h (array p) o = h _ _ (omega (arith, opens-shorter s c e y p o))
-  inside-same w x l h (codeWithScope q p) o = h _ _ (omega (arith, opens-shorter s c e y p o))
+-- the test of a key between step and read
+abbrev pub keyPasses : Bool → Level → ℕ → List ℕ → Bool
+keyPasses strict l position key = not (strict && l .isArray) || goodArrayKey position key
 
-pub visit-reads : (strict : Bool) (s : List ℕ) (l : Level) (position : ℕ) (e : Element) (v : Value) → visit strict s l position e ≡ gives v
-    → valueOf s e ≡ gives v
-unfolding visit
-visit-reads strict s l position e v x =
-    let (t, x1) = unless-gives (not (strict && l .array) || goodArrayKey position (bytes s (e .key))) 19 _ (at-gives (l .base + e .place) _ x) in
-    let (u, q, x2) = then-gives (valueOf s e) _ x1 in
-    let (d, x3) = unless-gives (leb (l .depth) 200) 13 _ x2 in
-    q ∙ x3
+module _ (strict : Bool) (s : List ℕ) (l : Level) (position : ℕ) (e : Element) where
+  -- what a visit that gives says: the key passed, the value reads, and it is not too deep
+  pub record Visited (o : Opening) : Type 0 where
+    pub key : keyPasses strict l position (bytes s (e .key)) ≡ true
+    pub value : Value
+    pub reads : valueOf s e ≡ gives value
+    pub shallow : l .depth ≤ 200
+    pub is : opening value ≡ o
 
-along-same : (strict : Bool) (w x : Walk) (s : List ℕ) (l : Level) → ((v : List ℕ) (k : Level) → length v < length s → w v k ≡ x v k)
-    → (position offset : ℕ) (i : Iteration) → Each s offset i → along strict w s l position i ≡ along strict x s l position i
-along-same strict w x s l h position offset ended g = refl
-along-same strict w x s l h position offset (broken n p) g = refl
-along-same strict w x s l h position offset (more e rest) g =
-    then-same (visit strict s l position e) _ _
-    (λ v q. rw (
-      inside-same s _ e (g .0) w x l h v (value-within s _ e (g .0) v (visit-reads strict s l position e v q)),
-      along-same strict w x s l h (suc position) _ rest (g .1),
-    ))
+  pub visit-says : (o : Opening) → visit strict s l position e ≡ gives o → Visited o
+  unfolding visit
+  visit-says o x =
+      let (t, x1) = unless-gives (keyPasses strict l position (bytes s (e .key))) 19 _ (at-gives (l .base + e .place) _ x) in
+      let (v, q, x2) = then-gives (valueOf s e) _ x1 in
+      let (d, x3) = unless-gives (leb (l .depth) 200) 13 _ x2 in
+      record { key = t; value = v; reads = q; shallow = leb-true (l .depth) 200 d; is = gives-injective x3 }
+
+  pub visit-gives : (o : Opening) → Visited o → visit strict s l position e ≡ gives o
+  unfolding visit
+  visit-gives o r = rw (r .key, r .reads, le-leb (l .depth) 200 (r .shallow), r .is)
+
+-- walks that agree on shorter lists
+module _ (strict : Bool) (s : List ℕ) (w x : Walk) (h : (v : List ℕ) (k : Level) → length v < length s → w v k ≡ x v k) where
+  inside-same : (l : Level) (position : ℕ) (c : Cursor) (e : Element) → Yields s c e → (o : Opening) → visit strict s l position e ≡ gives o
+      → inside w s l o ≡ inside x s l o
+  inside-same l position c e y closed q = refl
+  inside-same l position c e y (opens isArray levels p) q =
+      let r = visit-says strict s l position e (opens isArray levels p) q in
+      let o = value-opens s c e y (r .value) (r .reads) isArray levels p (r .is) in
+      h _ _ (omega (arith, opens-shorter s c e y p o))
+
+  opened-same : (l : Level) (position : ℕ) (c : Cursor) (e : Element) → Yields s c e → opened strict w s l position e ≡ opened strict x s l position e
+  unfolding opened
+  opened-same l position c e y = then-same (visit strict s l position e) _ _ (λ o q. rw (inside-same l position c e y o q))
+
+  along-same : (l : Level) (position offset : ℕ) (i : Iteration) → Each s offset i → along strict w s l position i ≡ along strict x s l position i
+  along-same l position offset ended g = refl
+  along-same l position offset (broken n p) g = refl
+  along-same l position offset (more e rest) g = rw (opened-same l position _ e (g .0), along-same l (suc position) _ rest (g .1))
 
 -- as many levels as bytes, and one, are enough, so more change nothing
 enough : (strict : Bool) (n m : ℕ) (s : List ℕ) (l : Level) → length s < n → length s < m → walkFor n strict s l ≡ walkFor m strict s l
@@ -50,11 +69,79 @@ unfolding walkFor
 enough strict zero m s l h k = absurd (omega arith)
 enough strict (suc n) zero s l h k = absurd (omega arith)
 enough strict (suc n) (suc m) s l h k =
-    along-same strict (walkFor n strict) (walkFor m strict) s l
-    (λ v d i. enough strict n m v d (omega arith) (omega arith)) 0 4 (iterate s 4) (iterate-each s 4)
+    along-same strict s (walkFor n strict) (walkFor m strict)
+    (λ v d i. enough strict n m v d (omega arith) (omega arith)) l 0 4 (iterate s 4) (iterate-each s 4)
 
-pub walk-eq : (strict : Bool) (s : List ℕ) (l : Level) → walk strict s l ≡ along strict (walk strict) s l 0 (iterate s 4)
+-- the walk from an offset on, behind so many elements
+abbrev pub walk-from : Bool → List ℕ → Level → ℕ → ℕ → Answer ℕ
+walk-from strict s l position offset = along strict (walk strict) s l position (iterate s offset)
+
+pub walk-eq : (strict : Bool) (s : List ℕ) (l : Level) → walk strict s l ≡ walk-from strict s l 0 4
 unfolding walk walkFor
 walk-eq strict s l =
-    along-same strict (walkFor (length s) strict) (walk strict) s l
-    (λ v d i. enough strict (length s) (suc (length v)) v d i (omega arith)) 0 4 (iterate s 4) (iterate-each s 4)
+    along-same strict s (walkFor (length s) strict) (walk strict)
+    (λ v d i. enough strict (length s) (suc (length v)) v d i (omega arith)) l 0 4 (iterate s 4) (iterate-each s 4)
+
+module _ (strict : Bool) (s : List ℕ) (l : Level) (position offset : ℕ) where
+  walked : walk-from strict s l position offset ≡ along strict (walk strict) s l position (onward (step s (cursor offset false)) (iterate s))
+  walked = ap (along strict (walk strict) s l position) (iterate-eq s offset)
+
+  pub walk-ends : step s (cursor offset false) ≡ gives end → walk-from strict s l position offset ≡ gives 0
+  walk-ends e = walked ∙ rw e
+
+  pub walk-refused : (n p : ℕ) → step s (cursor offset false) ≡ refuses n p → walk-from strict s l position offset ≡ refuses n (l .base + p)
+  walk-refused n p e = walked ∙ rw e
+
+  pub walk-onward : (e : Element) → step s (cursor offset false) ≡ gives (yield e)
+      → walk-from strict s l position offset
+      ≡ (then (opened strict (walk strict) s l position e) λ n. then (walk-from strict s l (suc position) (past e)) λ m. gives (n + m))
+  walk-onward e y = walked ∙ rw y
+
+-- a document has no more values than bytes
+module _ (strict : Bool) (s : List ℕ) (w : Walk) (h : (v : List ℕ) (k : Level) (n : ℕ) → length v < length s → w v k ≡ gives n → n ≤ length v) where
+  inside-few : (l : Level) (position : ℕ) (c : Cursor) (e : Element) → Yields s c e → (o : Opening) → visit strict s l position e ≡ gives o
+      → (n : ℕ) → inside w s l o ≡ gives n → n ≤ e .value .size
+  inside-few l position c e y closed q n x = let z : 0 ≡ n = gives-injective x in omega arith
+  inside-few l position c e y (opens isArray levels p) q n x =
+      let r = visit-says strict s l position e (opens isArray levels p) q in
+      let o = value-opens s c e y (r .value) (r .reads) isArray levels p (r .is) in
+      let (i, k) = opens-shorter s c e y p o in
+      let j : length (bytes s p) < length s = omega arith in
+      omega (arith, h (bytes s p) (deeper l isArray levels p) n j x)
+
+  opened-few : (l : Level) (position : ℕ) (c : Cursor) (e : Element) → Yields s c e → (n : ℕ) → opened strict w s l position e ≡ gives n
+      → c .offset + n < past e
+  unfolding opened
+  opened-few l position c e y n x =
+      let (o, q, x1) = then-gives (visit strict s l position e) _ x in
+      let (k, z, x2) = then-gives (inside w s l o) _ x1 in
+      let i : 1 + k ≡ n = gives-injective x2 in
+      omega (arith, inside-few l position c e y o q k z)
+
+  along-few : (l : Level) (position offset : ℕ) (i : Iteration) → Each s offset i → (n : ℕ) → along strict w s l position i ≡ gives n → n ≤ length s - offset
+  along-few l position offset ended g n x = let z : 0 ≡ n = gives-injective x in omega arith
+  along-few l position offset (broken k p) g n x = never x
+  along-few l position offset (more e rest) g n x =
+      let (a, q, x1) = then-gives (opened strict w s l position e) _ x in
+      let (m, z, x2) = then-gives (along strict w s l (suc position) rest) _ x1 in
+      let i : a + m ≡ n = gives-injective x2 in
+      let y = g .0 in
+      omega (arith, opened-few l position (cursor offset false) e y a q, along-few l (suc position) (past e) rest (g .1) m z)
+
+few-for : (f : ℕ) (strict : Bool) (s : List ℕ) (l : Level) (n : ℕ) → length s < f → walk strict s l ≡ gives n → n ≤ length s
+few-for zero strict s l n i x = absurd (omega arith)
+few-for (suc f) strict s l n i x =
+    omega (
+      arith,
+      along-few strict s (walk strict) (λ v k m j y. few-for f strict v k m (omega arith) y) l 0 4 (iterate s 4) (iterate-each s 4) n
+          (sym (walk-eq strict s l) ∙ x),
+    )
+
+walk-few : (strict : Bool) (v : List ℕ) (k : Level) (m : ℕ) → walk strict v k ≡ gives m → m ≤ length v
+walk-few strict v k m x = few-for (suc (length v)) strict v k m (omega arith) x
+
+-- an element brings fewer values than it has bytes
+pub opened-count : (strict : Bool) (s : List ℕ) (l : Level) (position : ℕ) (c : Cursor) (e : Element) → Yields s c e
+    → (n : ℕ) → opened strict (walk strict) s l position e ≡ gives n → c .offset + n < past e
+opened-count strict s l position c e y n x =
+    opened-few strict s (walk strict) (λ v k m j q. walk-few strict v k m q) l position c e y n x

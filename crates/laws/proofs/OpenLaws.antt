@@ -2,7 +2,7 @@
 use Prim.Native.Nat.{ℕ, _+_, _-_, _≤_, _<_}
 use mathlib.Core.Path.{_≡_, refl, sym, ap, subst, _∙_}
 use mathlib.Core.List.{List}
-use mathlib.Core.Bool.{_&&_}
+use mathlib.Core.Bool.{Bool, _&&_}
 use native.Mathlib.Omega.{arith}
 use lib.ListN.{length, getD, take, drop, length-drop}
 use lib.Seq.{length-take-le, getD-take}
@@ -15,6 +15,7 @@ use Rattle.bson.specs.Tags
 use Rattle.bson.specs.Framing.{inFront, stringSize, documentSize, patternOptions, framed, valueSize}
 use Rattle.bson.specs.Step.{admitted, Cursor, Element, past}
 use Rattle.bson.specs.Value
+use Rattle.bson.specs.Level.{Opening, closed, opens, opening}
 use Rattle.laws.proofs.AnswerLaws.{gives-injective, unless-gives, then-gives, then-from, at-gives}
 use Rattle.laws.proofs.BytesLaws.{bytes-length, bytes-trim}
 use Rattle.laws.proofs.Common.{split}
@@ -96,33 +97,6 @@ scope-says b w v e =
       is = ap (λ (x : ℕ). codeWithScope (part (w .offset + 8) x) (trim (4 + n) 0 w)) (sym m) ∙ gives-injective e5;
     }
 
--- a document inside a value
-pub record Opens (whole inner : Part) : Type 0 where
-  pub from : whole .offset ≤ inner .offset
-  pub to : inner .offset + inner .size ≤ whole .offset + whole .size
-  pub least : 5 ≤ inner .size
-
--- what a value opens lies inside the part that holds the value
-abbrev pub Within : Part → Value → Type 0
-Within w (leaf x) = record {}
-Within w (document p) = Opens w p
-Within w (array p) = Opens w p
-Within w (codeWithScope c p) = Opens w p
-
-scope-within : (b : List ℕ) (w : Part) (v : Value) → length b ≡ w .size → scopeValue b w ≡ gives v → Within w v
-scope-within b w v h e =
-    let r = scope-says b w v e in
-    let i = admitted-says (drop (r .start) b) (r .length-of) (r .admits) in
-    let o : Opens w (trim (r .start) 0 w) = record {
-      from = omega arith;
-      to = omega arith;
-      least = omega (arith, length-drop (r .start) b);
-    } in
-    subst (Within w) (r .is) o
-
-whole-opens : (b : List ℕ) (w : Part) → documentSize b ≡ gives (w .size) → Opens w w
-whole-opens b w f = record { from = omega arith; to = omega arith; least = document-least b (w .size) f }
-
 -- the four bytes in front are those of the whole
 le32-take : (n : ℕ) (v : List ℕ) → 4 ≤ n → le32 (take n v) ≡ le32 v
 unfolding le32
@@ -151,25 +125,42 @@ framed-admitted v n e =
       d .4,
     )
 
--- what a value opens is admitted, with just its size
-abbrev pub Admits : List ℕ → Value → Type 0
-Admits s (leaf x) = record {}
-Admits s (document p) = admitted (bytes s p) ≡ gives (p .size)
-Admits s (array p) = admitted (bytes s p) ≡ gives (p .size)
-Admits s (codeWithScope c p) = admitted (bytes s p) ≡ gives (p .size)
+-- a document inside a value: it lies in the value's part, and is admitted with just its size
+pub record Opens (s : List ℕ) (whole inner : Part) : Type 0 where
+  pub from : whole .offset ≤ inner .offset
+  pub to : inner .offset + inner .size ≤ whole .offset + whole .size
+  pub least : 5 ≤ inner .size
+  pub admits : admitted (bytes s inner) ≡ gives (inner .size)
 
-whole-admits : (s : List ℕ) (w : Part) → documentSize (drop (w .offset) s) ≡ gives (w .size) → admitted (bytes s w) ≡ gives (w .size)
+abbrev OpensIn : List ℕ → Part → Opening → Type 0
+OpensIn s w closed = record {}
+OpensIn s w (opens isArray levels p) = Opens s w p
+
+whole-opens : (s : List ℕ) (w : Part) → documentSize (drop (w .offset) s) ≡ gives (w .size) → Opens s w w
 unfolding bytes
-whole-admits s w f = framed-admitted (drop (w .offset) s) (w .size) f
+whole-opens s w f =
+    record {
+      from = omega arith;
+      to = omega arith;
+      least = document-least _ (w .size) f;
+      admits = framed-admitted (drop (w .offset) s) (w .size) f;
+    }
 
-scope-admits : (s : List ℕ) (w : Part) (v : Value) → w .offset + w .size ≤ length s → scopeValue (bytes s w) w ≡ gives v → Admits s v
-scope-admits s w v h e =
+scope-opens : (s : List ℕ) (w : Part) (v : Value) → w .offset + w .size ≤ length s → scopeValue (bytes s w) w ≡ gives v → OpensIn s w (opening v)
+unfolding opening
+scope-opens s w v h e =
     let r = scope-says (bytes s w) w v e in
     let i = bytes-length s w h in
+    let a = admitted-says (drop (r .start) (bytes s w)) (r .length-of) (r .admits) in
     let j : r .start ≤ w .size = omega arith in
-    let z : r .length-of ≡ w .size - (r .start + 0) =
-    omega (arith, admitted-says (drop (r .start) (bytes s w)) (r .length-of) (r .admits), length-drop (r .start) (bytes s w)) in
-    subst (Admits s) (r .is) (ap admitted (bytes-trim s w (r .start) h j) ∙ r .admits ∙ ap gives z)
+    let z : r .length-of ≡ w .size - (r .start + 0) = omega (arith, length-drop (r .start) (bytes s w)) in
+    let o : Opens s w (trim (r .start) 0 w) = record {
+      from = omega arith;
+      to = omega arith;
+      least = omega (arith, length-drop (r .start) (bytes s w));
+      admits = ap admitted (bytes-trim s w (r .start) h j) ∙ r .admits ∙ ap gives z;
+    } in
+    subst (λ (x : Value). OpensIn s w (opening x)) (r .is) o
 
 module _ (s : List ℕ) (c : Cursor) (e : Element) (y : Yields s c e) (v : Value) where
   -- it is what its part holds of the type that framed it
@@ -188,18 +179,17 @@ module _ (s : List ℕ) (c : Cursor) (e : Element) (y : Yields s c e) (v : Value
       → valueOf s e ≡ gives v → P v
   value-case P l d a z x = let (t, f, h) = value-content x in content-case P l v s (e .value) d a z t f h
 
-  -- what the value of a yielded element opens lies inside it
-  pub value-within : valueOf s e ≡ gives v → Within (e .value) v
-  value-within =
-      value-case (Within (e .value)) (λ x. record {}) (whole-opens _ _) (whole-opens _ _)
-      (scope-within (bytes s (e .value)) (e .value) v (bytes-length s (e .value) (y .inside)))
+  opens-in : valueOf s e ≡ gives v → OpensIn s (e .value) (opening v)
+  unfolding opening
+  opens-in =
+      value-case (λ (x : Value). OpensIn s (e .value) (opening x)) (λ x. record {}) (whole-opens s _) (whole-opens s _)
+      (scope-opens s (e .value) v (y .inside))
 
-  -- and is a document
-  pub value-admits : valueOf s e ≡ gives v → Admits s v
-  value-admits =
-      value-case (Admits s) (λ x. record {}) (whole-admits s _) (whole-admits s _) (scope-admits s (e .value) v (y .inside))
+  -- what the value of a yielded element opens is a document inside it
+  pub value-opens : valueOf s e ≡ gives v → (isArray : Bool) (levels : ℕ) (p : Part) → opening v ≡ opens isArray levels p → Opens s (e .value) p
+  value-opens x isArray levels p o = subst (OpensIn s (e .value)) o (opens-in x)
 
 -- and is shorter than the slice
 module _ (s : List ℕ) (c : Cursor) (e : Element) (y : Yields s c e) where
-  pub opens-shorter : (p : Part) → Opens (e .value) p → (length (bytes s p) ≡ p .size) × (p .size < length s)
+  pub opens-shorter : (p : Part) → Opens s (e .value) p → (length (bytes s p) ≡ p .size) × (p .size < length s)
   opens-shorter p o = (bytes-length s p (omega arith), omega arith)
