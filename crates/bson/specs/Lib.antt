@@ -10,5 +10,6 @@ pub mod Lookup
 pub mod ArrayKey
 pub mod Level
 pub mod Check
+pub mod Reach
 pub mod Vectors
 pub mod Decided
