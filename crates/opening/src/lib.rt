@@ -10,7 +10,7 @@ use value::Value;
 pub enum Opening {
     Closed,
     Opens {
-        is_array: bool,
+        array: bool,
         levels: usize,
         inner: Part,
     },
@@ -22,17 +22,17 @@ pub fn opening_of(value: Value) -> Opening
 {
     match value {
         Value::Document(inner) => Opening::Opens {
-            is_array: false,
+            array: false,
             levels: 1,
             inner,
         },
         Value::Array(inner) => Opening::Opens {
-            is_array: true,
+            array: true,
             levels: 1,
             inner,
         },
         Value::JavaScriptCodeWithScope { code: _, scope } => Opening::Opens {
-            is_array: false,
+            array: false,
             levels: 2,
             inner: scope,
         },

@@ -1,0 +1,302 @@
+-- `whole::walk_document` and `whole::open_value`, which call each other, meet their contracts: the depth left plus the bytes left fall (document
+-- 01, "Where each language form belongs"). Assumes nothing.
+use mathlib.Core.Path.{_≡_, refl, sym, ap, _∙_}
+use mathlib.Core.List.{List}
+use mathlib.Core.Bool.{Bool, false}
+use native.Mathlib.Omega.{arith}
+use lib.ListN.{length}
+use borrow.Author.Needs.{needs}
+use Rattle.bson.specs.Answer.{gives}
+use Rattle.bson.specs.Step as paper
+use Rattle.iter.specs.Said as step
+use Rattle.laws.proofs.AnswerLaws.{answered}
+use Rattle.laws.proofs.StepLaws.{step-yields}
+use Rattle.laws.proofs.AdvanceLaws.{next-begins}
+use Rattle.laws.proofs.CheckLaws.{opened-count}
+use Rattle.whole.specs.Said.{said, saidLevel}
+use Rattle.whole.specs.declared.Visited.the-variants.{Is}
+use Rattle.whole.proofs.Walk.{refused-place, yields-placed, opened-refused, opened-closed, opened-inside}
+use Rattle.whole.proofs.Walk.{depth-fits, base-fits, inner-fits, inner-falls, visited-is, visited-refused}
+use Rattle.whole.proofs.Walk.{LeftFrom, left-first, left-ends, left-refused, left-value-refused, left-onward}
+use Prim.Native.Nat.{ℕ, suc, _+_, _-_, _≤_, _<_}
+use borrow.Fn.Kinds.{In}
+use borrow.Fn.PlainCycle.{Measures, is, falls, and}
+use Rattle.whole.proofs.open_value.Reads as open-value
+use Rattle.whole.proofs.open_value.Kinds as open-value-kinds
+use Rattle.whole.proofs.+open_value+walk_document.Lts-open_value as open-value-lts
+use Rattle.whole.proofs.walk_document.Reads as walk-document
+use Rattle.whole.proofs.walk_document.Kinds as walk-document-kinds
+use Rattle.whole.proofs.+open_value+walk_document.Lts-walk_document as walk-document-lts
+use Rattle.iter.proofs.next.Reads as next-reads
+use Rattle.part.proofs.bytes_of.Reads as bytes-of-reads
+use Rattle.whole.proofs.visit.Reads as visit-reads
+use Rattle.whole.proofs.+open_value+walk_document.{statement}
+use Rattle.whole.proofs.+open_value+walk_document.Tie.{close}
+
+-- the cursor behind a step that yields stands where the element ends
+landed : (s : List ℕ) (offset next : ℕ) (ended : Bool) (e : paper.Element) → paper.step s (paper.cursor offset false) ≡ gives (paper.yield e)
+    → paper.after (paper.cursor offset false) (paper.step s (paper.cursor offset false)) ≡ paper.cursor next ended → next ≡ paper.past e
+landed s offset next ended e y a = ap (λ (c : paper.Cursor). c .offset) (sym a ∙ next-begins s _ e y .0)
+
+abbrev μ-open-value : Measures 1 open-value-kinds.ps ℕ
+μ-open-value κs a = (202 - a .1 .1 .0 .depth) + (length (a .0 .now) - a .1 .1 .1 .0 .place)
+
+abbrev μ-walk-document : Measures 1 walk-document-kinds.ps ℕ
+μ-walk-document κs a = (202 - a .1 .1 .0 .depth) + length (a .0 .now)
+
+abbrev open-at : ℕ → In 1 open-value-kinds.ps
+open-at t =
+    and 1 open-value-kinds.ps (is 1 open-value-kinds.ps μ-open-value t) open-value.Pre
+
+abbrev open-below : ℕ → In 1 open-value-kinds.ps
+open-below t =
+    and 1 open-value-kinds.ps (falls 1 open-value-kinds.ps _<_ μ-open-value t) open-value.Pre
+
+abbrev walk-at : ℕ → In 1 walk-document-kinds.ps
+walk-at t =
+    and 1 walk-document-kinds.ps (is 1 walk-document-kinds.ps μ-walk-document t) walk-document.Pre
+
+abbrev walk-below : ℕ → In 1 walk-document-kinds.ps
+walk-below t =
+    and
+    1
+    walk-document-kinds.ps
+    (falls 1 walk-document-kinds.ps _<_ μ-walk-document t)
+    walk-document.Pre
+
+-- what the callees ask and tell; of those in the cycle, below the measure
+abbrev open-calls : ℕ → open-value-lts.Claims
+open-calls t = (visit-reads.Asked, visit-reads.Learnt, bytes-of-reads.Asked, bytes-of-reads.Learnt, walk-below t, walk-document.Post)
+
+abbrev walk-calls : ℕ → walk-document-lts.Claims
+walk-calls t = (next-reads.Asked, next-reads.Learnt, open-below t, open-value.Post)
+
+open-value-visit-requires : (t : ℕ) → open-value-lts.Need-visit-requires (open-calls t) (open-at t) open-value.Post
+open-value-visit-requires t c κs = search needs
+
+open-value-enum-known-number : (t : ℕ) → open-value-lts.Need-enum-known-number (open-calls t) (open-at t) open-value.Post
+open-value-enum-known-number t c = search needs
+
+open-value-add-t16 : (t : ℕ) → open-value-lts.Need-add-t16 (open-calls t) (open-at t) open-value.Post
+open-value-add-t16 t c = let y = c .before .before .before .before .before .before .before .pre .1 .1 in omega arith
+
+open-value-enum-known-opening : (t : ℕ) → open-value-lts.Need-enum-known-opening (open-calls t) (open-at t) open-value.Post
+open-value-enum-known-opening t c = search needs
+
+open-value-enum-told : (t : ℕ) → open-value-lts.Need-enum-told (open-calls t) (open-at t) open-value.Post
+open-value-enum-told t c = search needs
+
+open-value-enum-known-opening-2 : (t : ℕ) → open-value-lts.Need-enum-known-opening-2 (open-calls t) (open-at t) open-value.Post
+open-value-enum-known-opening-2 t c = search needs
+
+open-value-add-t18 : (t : ℕ) → open-value-lts.Need-add-t18 (open-calls t) (open-at t) open-value.Post
+open-value-add-t18 t c =
+    let b = c .before .before .before in
+    let v =
+    visited-is _ _ _ _ (b .before .before .before .before .before .visit .ensures 0)
+    (b .before .before .before .opening .given .1 ∙ ap Is (b .opening2 .given .1)) in
+    let p = b .before .before .before .before .before .before .before .pre in
+    record { fits = base-fits _ _ _ 0 _ _ _ _ v _ refl _ (p .1 .1) (p .1 .0) }
+
+open-value-add-t19 : (t : ℕ) → open-value-lts.Need-add-t19 (open-calls t) (open-at t) open-value.Post
+open-value-add-t19 t c =
+    let b = c .before .before .before .before in
+    let v =
+    visited-is _ _ _ _ (b .before .before .before .before .before .visit .ensures 0)
+    (b .before .before .before .opening .given .1 ∙ ap Is (b .opening2 .given .1)) in
+    let p = b .before .before .before .before .before .before .before .pre in
+    record { fits = depth-fits _ _ _ 0 _ _ _ _ v _ refl _ (p .1 .1) }
+
+open-value-bytes-of-requires : (t : ℕ) → open-value-lts.Need-bytes-of-requires (open-calls t) (open-at t) open-value.Post
+open-value-bytes-of-requires t c κs = search needs
+
+open-value-walk-document-requires : (t : ℕ) → open-value-lts.Need-walk-document-requires (open-calls t) (open-at t) open-value.Post
+open-value-walk-document-requires t c κs =
+    let b = c .before .before .before .before .before in
+    let v =
+    visited-is _ _ _ _ (b .before .before .before .before .before .visit .ensures 0)
+    (b .before .before .before .opening .given .1 ∙ ap Is (b .opening2 .given .1)) in
+    let p = b .before .before .before .before .before .before .before .pre in
+    let d = c .bytes-of .ensures in
+    (inner-falls _ _ _ 0 _ _ _ _ v _ d _ (p .1 .1) t (p .0), inner-fits _ _ _ 0 _ _ _ _ v _ d _ (p .1 .1) (p .1 .0))
+
+open-value-enum-known-number-2 : (t : ℕ) → open-value-lts.Need-enum-known-number-2 (open-calls t) (open-at t) open-value.Post
+open-value-enum-known-number-2 t c = search needs
+
+open-value-enum-known-values : (t : ℕ) → open-value-lts.Need-enum-known-values (open-calls t) (open-at t) open-value.Post
+open-value-enum-known-values t c = search needs
+
+open-value-add-t23 : (t : ℕ) → open-value-lts.Need-add-t23 (open-calls t) (open-at t) open-value.Post
+open-value-add-t23 t c =
+    let b = c .before .before .before .before .before .before .before .before .before in
+    let v =
+    visited-is _ _ _ _ (b .before .before .before .before .before .visit .ensures 0)
+    (b .before .before .before .opening .given .1 ∙ ap Is (b .opening2 .given .1)) in
+    let p = b .before .before .before .before .before .before .before .pre in
+    let d = c .before .before .before .before .bytes-of .ensures in
+    let w = answered said (c .before .before .before .walk-document .ensures) (c .before .values .given .1) in
+    let o = opened-count _ _ _ 0 _ _ (p .1 .1) _ (sym (opened-inside _ _ _ 0 _ _ _ _ v _ d _ (sym w))) in
+    omega arith
+
+open-value-returns : (t : ℕ) → open-value-lts.Need-returns (open-calls t) (open-at t) open-value.Post
+open-value-returns t c position =
+    let v = visited-refused _ _ _ _ (c .before .before .before .before .before .visit .ensures position) (c .before .before .before .number .given .1) in
+    opened-refused _ _ _ position _ _ _ v
+
+open-value-returns-2 : (t : ℕ) → open-value-lts.Need-returns-2 (open-calls t) (open-at t) open-value.Post
+open-value-returns-2 t c position =
+    let v =
+    visited-is _ _ _ _ (c .before .before .before .before .before .visit .ensures position)
+    (c .before .before .before .opening .given .1 ∙ ap Is (c .enum-told .given .1)) in
+    opened-closed _ _ _ position _ v
+
+open-value-returns-3 : (t : ℕ) → open-value-lts.Need-returns-3 (open-calls t) (open-at t) open-value.Post
+open-value-returns-3 t c position =
+    let b = c .before .before .before .before .before .before .before .before .before in
+    let v =
+    visited-is _ _ _ _ (b .before .before .before .before .before .visit .ensures position)
+    (b .before .before .before .opening .given .1 ∙ ap Is (b .opening2 .given .1)) in
+    let d = c .before .before .before .before .bytes-of .ensures in
+    let w = answered said (c .before .before .before .walk-document .ensures) (c .before .number2 .given .1) in
+    opened-inside _ _ _ position _ _ _ _ v _ d _ (sym w)
+
+open-value-returns-4 : (t : ℕ) → open-value-lts.Need-returns-4 (open-calls t) (open-at t) open-value.Post
+open-value-returns-4 t c position =
+    let b = c .before .before .before .before .before .before .before .before .before in
+    let v =
+    visited-is _ _ _ _ (b .before .before .before .before .before .visit .ensures position)
+    (b .before .before .before .opening .given .1 ∙ ap Is (b .opening2 .given .1)) in
+    let d = c .before .before .before .before .bytes-of .ensures in
+    let w = answered said (c .before .before .before .walk-document .ensures) (c .before .values .given .1) in
+    opened-inside _ _ _ position _ _ _ _ v _ d _ (sym w)
+
+abbrev Inv-loop : walk-document-lts.InvT-loop
+Inv-loop s strict level offset₀ count₀ offset count =
+    (position : ℕ) × (count + 4 ≤ offset) × (offset ≤ length s + 4) × LeftFrom strict s (saidLevel level) offset count position
+
+abbrev μ-loop : walk-document-lts.MeasureT-loop
+μ-loop s strict level offset₀ count₀ offset count = length s + 4 - offset
+
+walk-document-loop-holds : (t : ℕ) → walk-document-lts.Need-loop-holds (walk-calls t) (walk-at t) walk-document.Post Inv-loop μ-loop
+walk-document-loop-holds t c = (0, omega arith, omega arith, left-first _ _ _)
+
+walk-document-next-requires : (t : ℕ) → walk-document-lts.Need-next-requires (walk-calls t) (walk-at t) walk-document.Post Inv-loop μ-loop
+walk-document-next-requires t c κs = search needs
+
+walk-document-enum-told : (t : ℕ) → walk-document-lts.Need-enum-told (walk-calls t) (walk-at t) walk-document.Post Inv-loop μ-loop
+walk-document-enum-told t c = search needs
+
+walk-document-returns : (t : ℕ) → walk-document-lts.Need-returns (walk-calls t) (walk-at t) walk-document.Post Inv-loop μ-loop
+walk-document-returns t c =
+    let x = answered step.said (c .before .before .next .ensures .0) (c .enum-told .given .1) in
+    left-ends _ _ _ _ _ _ (c .before .before .before .loop .inv .3) x
+
+walk-document-enum-known-number : (t : ℕ) → walk-document-lts.Need-enum-known-number (walk-calls t) (walk-at t) walk-document.Post Inv-loop μ-loop
+walk-document-enum-known-number t c = search needs
+
+walk-document-add-t15 : (t : ℕ) → walk-document-lts.Need-add-t15 (walk-calls t) (walk-at t) walk-document.Post Inv-loop μ-loop
+walk-document-add-t15 t c =
+    let x = answered step.said (c .before .before .before .before .next .ensures .0) (c .before .before .number .given .1) in
+    let i = c .before .before .before .before .before .loop .inv in
+    omega (arith, refused-place _ _ _ _ x)
+
+walk-document-returns-2 : (t : ℕ) → walk-document-lts.Need-returns-2 (walk-calls t) (walk-at t) walk-document.Post Inv-loop μ-loop
+walk-document-returns-2 t c =
+    let x = answered step.said (c .before .before .before .before .next .ensures .0) (c .before .before .number .given .1) in
+    left-refused _ _ _ _ _ _ (c .before .before .before .before .before .loop .inv .3) _ _ x
+
+walk-document-enum-known-element : (t : ℕ) → walk-document-lts.Need-enum-known-element (walk-calls t) (walk-at t) walk-document.Post Inv-loop μ-loop
+walk-document-enum-known-element t c = search needs
+
+walk-document-open-value-requires : (t : ℕ) → walk-document-lts.Need-open-value-requires (walk-calls t) (walk-at t) walk-document.Post Inv-loop μ-loop
+walk-document-open-value-requires t c κs =
+    let x = answered step.said (c .before .before .before .next .ensures .0) (c .before .element .given .1) in
+    let y = yields-placed _ _ _ x in
+    (omega arith, (omega arith, y))
+
+walk-document-enum-known-number-2 : (t : ℕ) → walk-document-lts.Need-enum-known-number-2 (walk-calls t) (walk-at t) walk-document.Post Inv-loop μ-loop
+walk-document-enum-known-number-2 t c = search needs
+
+walk-document-returns-3 : (t : ℕ) → walk-document-lts.Need-returns-3 (walk-calls t) (walk-at t) walk-document.Post Inv-loop μ-loop
+walk-document-returns-3 t c =
+    let i = c .before .before .before .before .before .before .before .before .loop .inv in
+    let b = c .before .before .before .before .before in
+    let x = answered step.said (b .before .before .next .ensures .0) (b .element .given .1) in
+    let o = answered said (c .before .before .before .open-value .ensures (i .0)) (c .before .number2 .given .1) in
+    left-value-refused _ _ _ _ _ _ (i .3) _ x _ _ (sym o)
+
+walk-document-enum-known-values : (t : ℕ) → walk-document-lts.Need-enum-known-values (walk-calls t) (walk-at t) walk-document.Post Inv-loop μ-loop
+walk-document-enum-known-values t c = search needs
+
+walk-document-add-count : (t : ℕ) → walk-document-lts.Need-add-count (walk-calls t) (walk-at t) walk-document.Post Inv-loop μ-loop
+walk-document-add-count t c =
+    let i = c .before .before .before .before .before .before .before .before .loop .inv in
+    let b = c .before .before .before .before .before in
+    let x = answered step.said (b .before .before .next .ensures .0) (b .element .given .1) in
+    let o = answered said (c .before .before .before .open-value .ensures (i .0)) (c .before .values .given .1) in
+    let y = step-yields _ _ _ x in
+    let k = opened-count _ _ _ (i .0) _ _ y _ o in
+    omega arith
+
+walk-document-loop-less : (t : ℕ) → walk-document-lts.Need-loop-less (walk-calls t) (walk-at t) walk-document.Post Inv-loop μ-loop
+walk-document-loop-less t c =
+    let i = c .before .before .before .before .before .before .before .before .loop .inv in
+    let b = c .before .before .before .before .before in
+    let x = answered step.said (b .before .before .next .ensures .0) (b .element .given .1) in
+    let y = step-yields _ _ _ x in
+    let n = landed _ _ _ _ _ x (sym (b .before .before .next .ensures .1) ∙ ap step.behind (b .element .given .1)) in
+    omega arith
+
+walk-document-loop-again : (t : ℕ) → walk-document-lts.Need-loop-again (walk-calls t) (walk-at t) walk-document.Post Inv-loop μ-loop
+walk-document-loop-again t c =
+    let i = c .before .before .before .before .before .before .before .before .loop .inv in
+    let b = c .before .before .before .before .before in
+    let x = answered step.said (b .before .before .next .ensures .0) (b .element .given .1) in
+    let o = answered said (c .before .before .before .open-value .ensures (i .0)) (c .before .values .given .1) in
+    let y = step-yields _ _ _ x in
+    let k = opened-count _ _ _ (i .0) _ _ y _ o in
+    let n = landed _ _ _ _ _ x (sym (b .before .before .next .ensures .1) ∙ ap step.behind (b .element .given .1)) in
+    (suc (i .0), omega arith, omega arith, rw n (left-onward _ _ _ _ _ _ (i .3) _ x _ (sym o)))
+
+pub +open-value+walk-document-spec : {M : Type 1} → statement M
++open-value+walk-document-spec = close μ-open-value μ-walk-document (λ t. open-value-lts.spec (open-calls t)
+    (open-at t)
+    open-value.Post
+    (open-value-visit-requires t)
+    (open-value-enum-known-number t)
+    (open-value-add-t16 t)
+    (open-value-enum-known-opening t)
+    (open-value-enum-told t)
+    (open-value-enum-known-opening-2 t)
+    (open-value-add-t18 t)
+    (open-value-add-t19 t)
+    (open-value-bytes-of-requires t)
+    (open-value-walk-document-requires t)
+    (open-value-enum-known-number-2 t)
+    (open-value-enum-known-values t)
+    (open-value-add-t23 t)
+    (open-value-returns t)
+    (open-value-returns-2 t)
+    (open-value-returns-3 t)
+    (open-value-returns-4 t))
+    λ t. walk-document-lts.spec
+    (walk-calls t)
+    (walk-at t)
+    walk-document.Post
+    Inv-loop
+    μ-loop
+    (walk-document-loop-holds t)
+    (walk-document-next-requires t)
+    (walk-document-enum-told t)
+    (walk-document-returns t)
+    (walk-document-enum-known-number t)
+    (walk-document-add-t15 t)
+    (walk-document-returns-2 t)
+    (walk-document-enum-known-element t)
+    (walk-document-open-value-requires t)
+    (walk-document-enum-known-number-2 t)
+    (walk-document-returns-3 t)
+    (walk-document-enum-known-values t)
+    (walk-document-add-count t)
+    (walk-document-loop-less t)
+    (walk-document-loop-again t)

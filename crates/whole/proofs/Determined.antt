@@ -1,0 +1,22 @@
+-- Determined: the promise of each call allows one answer (document 01, "What every answer is bound to"). Assumes nothing.
+use mathlib.Core.Path.{_≡_, refl, sym, _∙_}
+use contract.Lifetimes.{Lfts}
+use borrow.Fn.Kinds.{Dens}
+use Rattle.laws.proofs.Determined.{Determined, injective-by, unsaidAt}
+use Rattle.whole.specs.Said.{said}
+use Rattle.whole.specs.declared.Verdict.{Verdict}
+use Rattle.whole.specs.declared.Verdict.the-variants.{Accepted, Refused}
+use Rattle.whole.proofs.check.Reads as check-reads
+use Rattle.whole.proofs.check.Kinds as check-kinds
+use Rattle.whole.proofs.check_strict.Reads as check-strict-reads
+use Rattle.whole.proofs.check_strict.Kinds as check-strict-kinds
+
+verdict-again : (r : Verdict) → unsaidAt Accepted Refused (said r) ≡ r
+verdict-again (Accepted n) = refl
+verdict-again (Refused number place) = refl
+
+pub check-determined : (κs : Lfts 1) (a : Dens κs check-kinds.ps) → Determined (check-reads.Post κs a)
+check-determined κs a r₁ r₂ s₁ s₂ p q = injective-by said (unsaidAt Accepted Refused) verdict-again r₁ r₂ (p ∙ sym q)
+
+pub check-strict-determined : (κs : Lfts 1) (a : Dens κs check-strict-kinds.ps) → Determined (check-strict-reads.Post κs a)
+check-strict-determined κs a r₁ r₂ s₁ s₂ p q = injective-by said (unsaidAt Accepted Refused) verdict-again r₁ r₂ (p ∙ sym q)

@@ -1,0 +1,15 @@
+-- `whole::check_either` meets its contract: the walk of the slice itself. Assumes nothing.
+use Rattle.bson.specs.Check.{check}
+use borrow.Author.Needs.{needs}
+use Rattle.whole.proofs.check_either.Statement.{statement}
+use Rattle.whole.proofs.check_either.Tie as tie
+
+walk-document-requires : tie.Need-walk-document-requires
+walk-document-requires c κs = search needs
+
+returns : tie.Need-returns
+unfolding check
+returns c = c .walk-document .ensures
+
+pub check-either-spec : {M : Type 1} → statement M
+check-either-spec = tie.close (tie.spec walk-document-requires returns)
