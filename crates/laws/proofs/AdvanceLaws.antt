@@ -12,7 +12,7 @@ use Rattle.bson.specs.Answer.{Answer, gives, refuses, then, at}
 use Rattle.bson.specs.Step.{terminator, admitted, Cursor, cursor, Element, past, element, yield, end, yielding, step, after}
 use Rattle.laws.proofs.AnswerLaws.{never}
 use Rattle.laws.proofs.Common.{split}
-use Rattle.laws.proofs.StepLaws.{admitted-says, step-yields}
+use Rattle.laws.proofs.StepLaws.{admitted-says, step-admits, step-yields}
 
 -- where a step may begin
 abbrev pub begins : List ℕ → ℕ → Bool
@@ -61,7 +61,15 @@ module _ (s : List ℕ) (m : ℕ) (a : admitted s ≡ gives m) where
   pub step-ends : (offset : ℕ) → (step s (cursor offset false) ≡ gives end) ↔ (offset ≡ terminator s)
   step-ends offset = (ends-only offset, λ e. ap (λ (o : ℕ). step s (cursor o false)) e ∙ step-terminator)
 
+pub ended-at : (s : List ℕ) (offset : ℕ) → step s (cursor offset false) ≡ gives end → offset ≡ terminator s
+ended-at s offset e = step-ends s _ (step-admits s (cursor offset false) end e) offset .0 e
+
 -- the next step begins where the element's value ends, which lies behind where this one began
 pub next-begins : (s : List ℕ) (c : Cursor) (e : Element) → step s c ≡ gives (yield e)
     → (after c (step s c) ≡ cursor (past e) false) × (c .offset < past e)
 next-begins s c e x = let y = step-yields s c e x in (ap (after c) x, omega arith)
+
+-- so does a cursor that stands behind it
+pub next-lands : (s : List ℕ) (c : Cursor) (next : ℕ) (ended : Bool) (e : Element) → step s c ≡ gives (yield e)
+    → after c (step s c) ≡ cursor next ended → next ≡ past e
+next-lands s c next ended e x a = ap (λ (d : Cursor). d .offset) (sym a ∙ next-begins s c e x .0)

@@ -27,6 +27,10 @@ same-eq (x ∷ a) (y ∷ b) e =
     (λ p. let i = same-eq a b (rw p at e) in let j = eqb-true x y p in cc)
     (λ p. absurd (true≢false (sym (rw p at e))))
 
+pub same-self : (a : List ℕ) → same a a ≡ true
+same-self [] = refl
+same-self (x ∷ a) = rw (eq-eqb x x refl, same-self a)
+
 module _ (a b : List ℕ) (i : ℕ) (p : i < length a) (q : i < length b) where
   pub same-step : getD a i 0 ≡ getD b i 0 → same (drop i a) (drop i b) ≡ same (drop (i + 1) a) (drop (i + 1) b)
   same-step e = rw (add-one, drop-cons a i 0 p, drop-cons b i 0 q, eq-eqb _ _ e)

@@ -9,7 +9,7 @@ use lib.ListN.{length}
 use lib.Dec.{leb}
 use borrow.Author.Tests.{leb-true, le-leb}
 use Rattle.bson.specs.Answer.{Answer, gives, refuses, then}
-use Rattle.bson.specs.Bytes.{Part, bytes}
+use Rattle.bson.specs.Bytes.{bytes}
 use Rattle.bson.specs.Step.{Cursor, cursor, Element, past, yield, end, step, Iteration, ended, broken, more, onward, iterate}
 use Rattle.bson.specs.Value.{Value, valueOf}
 use Rattle.bson.specs.ArrayKey.{goodArrayKey}

@@ -12,12 +12,12 @@ use Rattle.bson.specs.Answer.{Answer, gives, refuses, at}
 use Rattle.bson.specs.Bytes.{le64, i32, i64, Part, bytes, same}
 use Rattle.bson.specs.Tags.{ElementType, Boolean, Int32, Double, Int64, DateTime, Timestamp, tags, rowOf, typeOf}
 use Rattle.bson.specs.Framing.{inFront}
-use Rattle.bson.specs.Step.{admitted, Cursor, cursor, Element, past, yield, end, step, Iteration, ended, broken, more, onward, iterate}
+use Rattle.bson.specs.Step.{Cursor, cursor, Element, past, yield, end, step, Iteration, ended, broken, more, onward, iterate}
 use Rattle.bson.specs.Value.{Leaf, leaf, boolean, int32, int64, dateTime, double, timestamp, asLeaf, bool, timestampOf, content, valueIn, valueOf}
 use Rattle.bson.specs.Lookup.{Found, found, first, get, getWith, typed}
 use Rattle.laws.proofs.AnswerLaws.{never, gives-injective, unless-gives, then-gives, at-gives}
 use Rattle.laws.proofs.Common.{split}
-use Rattle.laws.proofs.AdvanceLaws.{step-ends}
+use Rattle.laws.proofs.AdvanceLaws.{ended-at}
 use Rattle.laws.proofs.StepLaws.{Yields, iterate-eq, Each, iterate-each}
 use Rattle.laws.proofs.PartLaws.{BothEnd, parts-inside}
 
@@ -30,10 +30,7 @@ module _ (s key : List ℕ) (offset : ℕ) where
   searched = ap (first s key) (iterate-eq s offset)
 
   pub search-ends : step s (cursor offset false) ≡ gives end → search-from s key offset ≡ refuses 16 offset
-  unfolding step
-  search-ends e =
-      let (m, a, h) = then-gives (admitted s) _ e in
-      searched ∙ rw (e, step-ends s m a offset .0 e)
+  search-ends e = searched ∙ rw (e, ended-at s offset e)
 
   pub search-refused : (n p : ℕ) → step s (cursor offset false) ≡ refuses n p → search-from s key offset ≡ refuses n p
   search-refused n p e = searched ∙ rw e

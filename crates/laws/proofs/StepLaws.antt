@@ -29,6 +29,11 @@ admitted-says s n e =
     let (w, e3) = unless-gives (eqb (getD s (terminator s) 0) 0) 3 _ e2 in
     (leb-true 5 (length s) t, sym (gives-injective e3), eqb-true _ _ w)
 
+-- a step that is not refused is one in an admitted document
+pub step-admits : (s : List ℕ) (c : Cursor) (x : Step) → step s c ≡ gives x → admitted s ≡ gives (length s)
+unfolding step
+step-admits s c x q = let (n, a, h) = then-gives (admitted s) _ q in a ∙ ap gives (admitted-says s n a .1)
+
 -- an element that a step at a cursor yields: where it lies, and that its key and its value are framed there
 pub record Yields (s : List ℕ) (c : Cursor) (e : Element) : Type 0 where
   pub admits : admitted s ≡ gives (length s)
@@ -98,7 +103,7 @@ module _ (s : List ℕ) (c : Cursor) (e : Element) where
       let (low, high) = both-hold (leb 4 (c .offset)) (leb (c .offset) (terminator s)) t in
       let l : 4 ≤ c .offset = leb-true 4 (c .offset) low in
       let h : c .offset < terminator s = omega (arith, leb-true (c .offset) (terminator s) high, eqb-false (c .offset) (terminator s) f) in
-      element-yields (a ∙ ap gives (admitted-says s n a .1)) g l h (x5 ∙ ap gives i)
+      element-yields (step-admits s c (yield e) x) g l h (x5 ∙ ap gives i)
 
 -- the key of a yielded element is a valid one, so another matches nothing
 pub key-valid : (s : List ℕ) (c : Cursor) (e : Element) → Yields s c e → validCstr (bytes s (e .key)) ≡ true

@@ -1,27 +1,18 @@
 -- `document::get_element` meets its contract: the search from each offset is the whole search. Assumes nothing.
-use Prim.Native.Nat.{ℕ, _-_}
+use Prim.Native.Nat.{_-_}
 use mathlib.Core.Path.{_≡_, refl, ap, sym, _∙_}
-use mathlib.Core.List.{List}
-use mathlib.Core.Bool.{Bool, false}
 use lib.ListN.{length}
 use native.Mathlib.Omega.{arith}
-use Rattle.bson.specs.Answer.{gives}
 use Rattle.bson.specs.Bytes.{same}
-use Rattle.bson.specs.Step as paper
 use Rattle.bson.specs.Lookup.{get}
 use Rattle.laws.proofs.AnswerLaws.{answered}
 use Rattle.laws.proofs.StepLaws.{step-yields}
-use Rattle.laws.proofs.AdvanceLaws.{next-begins}
+use Rattle.laws.proofs.AdvanceLaws.{next-lands}
 use Rattle.laws.proofs.LookupLaws.{search-from, search-ends, search-refused, search-found, search-onward}
 use Rattle.iter.specs.Said as step
 use borrow.Author.Needs.{needs}
 use Rattle.document.proofs.get_element.Statement.{statement}
 use Rattle.document.proofs.get_element.Tie as tie
-
--- the cursor behind a step that yields stands where the element ends
-landed : (s : List ℕ) (offset next : ℕ) (ended : Bool) (e : paper.Element) → paper.step s (paper.cursor offset false) ≡ gives (paper.yield e)
-    → paper.after (paper.cursor offset false) (paper.step s (paper.cursor offset false)) ≡ paper.cursor next ended → next ≡ paper.past e
-landed s offset next ended e y a = ap (λ (c : paper.Cursor). c .offset) (sym a ∙ next-begins s _ e y .0)
 
 abbrev Inv-loop : tie.InvT-loop
 Inv-loop s key offset₀ offset = search-from s key offset ≡ get s key
@@ -74,7 +65,7 @@ loop-less : tie.Need-loop-less Inv-loop μ-loop
 loop-less c =
     let b = c .before .before .before .before .before in
     let y = answered step.said (b .before .before .next .ensures .0) (b .element .given .1) in
-    let n = landed _ _ _ _ _ y (sym (b .before .before .next .ensures .1) ∙ ap step.behind (b .element .given .1)) in
+    let n = next-lands _ _ _ _ _ y (sym (b .before .before .next .ensures .1) ∙ ap step.behind (b .element .given .1)) in
     let w = step-yields _ _ _ y in
     omega arith
 
@@ -82,7 +73,7 @@ loop-again : tie.Need-loop-again Inv-loop μ-loop
 loop-again c =
     let b = c .before .before .before .before .before in
     let y = answered step.said (b .before .before .next .ensures .0) (b .element .given .1) in
-    let n = landed _ _ _ _ _ y (sym (b .before .before .next .ensures .1) ∙ ap step.behind (b .element .given .1)) in
+    let n = next-lands _ _ _ _ _ y (sym (b .before .before .next .ensures .1) ∙ ap step.behind (b .element .given .1)) in
     let key = b .before .before .before .before .before .before .args .key .now in
     let k = sym (c .before .equal .ensures ∙ ap (same key) (c .before .before .bytes-of .ensures)) ∙ c .if1 .left in
     rw n (sym (search-onward _ _ _ _ y k) ∙ b .before .before .before .loop .inv)

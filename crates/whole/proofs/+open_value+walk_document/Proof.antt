@@ -1,17 +1,13 @@
 -- `whole::walk_document` and `whole::open_value`, which call each other, meet their contracts: the depth left plus the bytes left fall (document
 -- 01, "Where each language form belongs"). Assumes nothing.
-use mathlib.Core.Path.{_≡_, refl, sym, ap, _∙_}
-use mathlib.Core.List.{List}
-use mathlib.Core.Bool.{Bool, false}
+use mathlib.Core.Path.{refl, sym, ap, _∙_}
 use native.Mathlib.Omega.{arith}
 use lib.ListN.{length}
 use borrow.Author.Needs.{needs}
-use Rattle.bson.specs.Answer.{gives}
-use Rattle.bson.specs.Step as paper
 use Rattle.iter.specs.Said as step
 use Rattle.laws.proofs.AnswerLaws.{answered}
 use Rattle.laws.proofs.StepLaws.{step-yields}
-use Rattle.laws.proofs.AdvanceLaws.{next-begins}
+use Rattle.laws.proofs.AdvanceLaws.{next-lands}
 use Rattle.laws.proofs.CheckLaws.{opened-count}
 use Rattle.whole.specs.Said.{said, saidLevel}
 use Rattle.whole.specs.declared.Visited.the-variants.{Is}
@@ -32,11 +28,6 @@ use Rattle.part.proofs.bytes_of.Reads as bytes-of-reads
 use Rattle.whole.proofs.visit.Reads as visit-reads
 use Rattle.whole.proofs.+open_value+walk_document.{statement}
 use Rattle.whole.proofs.+open_value+walk_document.Tie.{close}
-
--- the cursor behind a step that yields stands where the element ends
-landed : (s : List ℕ) (offset next : ℕ) (ended : Bool) (e : paper.Element) → paper.step s (paper.cursor offset false) ≡ gives (paper.yield e)
-    → paper.after (paper.cursor offset false) (paper.step s (paper.cursor offset false)) ≡ paper.cursor next ended → next ≡ paper.past e
-landed s offset next ended e y a = ap (λ (c : paper.Cursor). c .offset) (sym a ∙ next-begins s _ e y .0)
 
 abbrev μ-open-value : Measures 1 open-value-kinds.ps ℕ
 μ-open-value κs a = (202 - a .1 .1 .0 .depth) + (length (a .0 .now) - a .1 .1 .1 .0 .place)
@@ -244,7 +235,7 @@ walk-document-loop-less t c =
     let b = c .before .before .before .before .before in
     let x = answered step.said (b .before .before .next .ensures .0) (b .element .given .1) in
     let y = step-yields _ _ _ x in
-    let n = landed _ _ _ _ _ x (sym (b .before .before .next .ensures .1) ∙ ap step.behind (b .element .given .1)) in
+    let n = next-lands _ _ _ _ _ x (sym (b .before .before .next .ensures .1) ∙ ap step.behind (b .element .given .1)) in
     omega arith
 
 walk-document-loop-again : (t : ℕ) → walk-document-lts.Need-loop-again (walk-calls t) (walk-at t) walk-document.Post Inv-loop μ-loop
@@ -255,7 +246,7 @@ walk-document-loop-again t c =
     let o = answered said (c .before .before .before .open-value .ensures (i .0)) (c .before .values .given .1) in
     let y = step-yields _ _ _ x in
     let k = opened-count _ _ _ (i .0) _ _ y _ o in
-    let n = landed _ _ _ _ _ x (sym (b .before .before .next .ensures .1) ∙ ap step.behind (b .element .given .1)) in
+    let n = next-lands _ _ _ _ _ x (sym (b .before .before .next .ensures .1) ∙ ap step.behind (b .element .given .1)) in
     (suc (i .0), omega arith, omega arith, rw n (left-onward _ _ _ _ _ _ (i .3) _ x _ (sym o)))
 
 pub +open-value+walk-document-spec : {M : Type 1} → statement M

@@ -1,5 +1,5 @@
 -- `whole::key_passes` meets its contract: the key of an array goes by its digits, any other passes. Assumes nothing.
-use mathlib.Core.Path.{_≡_, ap, _∙_}
+use mathlib.Core.Path.{ap, _∙_}
 use Rattle.bson.specs.ArrayKey.{goodArrayKey}
 use borrow.Author.Needs.{needs}
 use Rattle.whole.proofs.key_passes.Statement.{statement}

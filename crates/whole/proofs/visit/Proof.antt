@@ -1,5 +1,5 @@
 -- `whole::visit` meets its contract: key, reading and depth in this order. Assumes nothing.
-use mathlib.Core.Path.{_≡_, sym, _∙_}
+use mathlib.Core.Path.{sym, _∙_}
 use native.Mathlib.Omega.{arith}
 use borrow.Author.Tests.{lt-leb}
 use Rattle.bson.specs.Check.{visit}
