@@ -1,0 +1,1 @@
+// What is true of the definition stands in proofs/. There is no code.
