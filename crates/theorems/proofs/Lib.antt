@@ -1,3 +1,6 @@
 pub mod Spots
 pub mod Whole
 pub mod Count
+pub mod First
+pub mod Passed
+pub mod Typed
