@@ -1,5 +1,6 @@
 -- Points that document 01 leaves open, as docs/DECISIONS.md settles them, and a zero byte met as a tag, each by bytes that show it.
 use Prim.Native.Nat.{ℕ}
+use mathlib.Core.Path.{_≡_}
 use mathlib.Core.List.{List, [], _∷_, _++_}
 use mathlib.Core.Bool.{true, false, cond}
 use lib.ListN.{length}
@@ -58,8 +59,88 @@ abbrev pub walkAt : ℕ → List ℕ → Answer ℕ
 walkAt depth s = walk false s (record { isArray = false; base = 0; depth = depth })
 
 -- what the definition says, and what was settled
-unfoldable pub points : List (Answer ℕ × Answer ℕ)
-points =
+abbrev pub Point : Type 0
+Point = Answer ℕ × Answer ℕ
+
+-- steps, and `is_empty`
+unfoldable pub stepPoints : List Point
+stepPoints =
+    -- admission comes before the ended mark
+    (given (step (0x05 ∷ 0 ∷ 0 ∷ 0 ∷ []) (cursor 4 true)), refuses 1 0)
+    ∷ (given (step empty (cursor 99 true)), gives 0)
+    -- 4 at that very offset, however large
+    ∷ (given (step empty (cursor 3 false)), refuses 4 3)
+    ∷ (given (step empty (cursor 5 false)), refuses 4 5)
+    ∷ (given (readAt empty 0xFFFF_FFFF_FFFF_FFFF), refuses 4 0xFFFF_FFFF_FFFF_FFFF)
+    -- the key that a step yields, and none at the terminator
+    ∷ (gives (le32 (keyAt twoKeys (cursor 8 false))), gives 0x61)
+    ∷ (gives (length (keyAt twoKeys (cursor 12 false))), gives 0)
+    -- `is_empty`
+    ∷ (then (isEmpty empty) (λ b. gives (cond b 1 0)), gives 1)
+    ∷ (then (isEmpty twoKeys) (λ b. gives (cond b 1 0)), gives 0)
+    ∷ (given (isEmpty (0x06 ∷ 0 ∷ 0 ∷ 0 ∷ 0 ∷ [])), refuses 2 0)
+    ∷ []
+
+-- readings
+unfoldable pub readingPoints : List Point
+readingPoints =
+    -- reading at the terminator
+    (given (readAt empty 4), refuses 16 4)
+    -- the value's refusal comes before 17, in a lookup and in a reading; a value of its tag, and of another
+    ∷ (given (getWith badBoolean [] 0x10), refuses 11 4)
+    ∷ (given (readWith badBoolean 4 0x10), refuses 11 4)
+    ∷ (given (readWith twoKeys 8 0x08), gives 0)
+    ∷ (given (readWith twoKeys 8 0x10), refuses 17 8)
+    -- an element of the caller's own whose value runs past the slice
+    ∷ (given (valueOf twoKeys (elem 8 0x08 1 1)), gives 0)
+    ∷ (given (valueOf twoKeys (elem 8 0x08 1 3)), refuses 9 8)
+    ∷ []
+
+-- lookups
+unfoldable pub lookupPoints : List Point
+lookupPoints =
+    -- a key with a zero byte, or not UTF-8, matches nothing
+    (given (get twoKeys (0x61 ∷ 0 ∷ [])), refuses 16 12)
+    ∷ (given (get twoKeys (0xFF ∷ [])), refuses 16 12)
+    -- a typed lookup by the element's tag, another, and one outside the table; the place of 17
+    ∷ (given (getWith twoKeys (0x61 ∷ []) 0x08), gives 0)
+    ∷ (given (getWith twoKeys (0x61 ∷ []) 0x10), refuses 17 4)
+    ∷ (given (getWith twoKeys (0x61 ∷ []) 0x14), refuses 17 4)
+    ∷ (given (getWith twoKeys (0x62 ∷ []) 0x14), refuses 16 12)
+    ∷ []
+
+-- what is handed back
+unfoldable pub partPoints : List Point
+partPoints =
+    -- the parts of a value; none where its twin refuses
+    (gives (le32 (partAt oldBinary 4 0x05 first)), gives 0xAA)
+    ∷ (gives (length (partAt oldBinary 4 0x05 first)), gives 1)
+    ∷ (gives (length (partAt oldBinary 4 0x02 first)), gives 0)
+    ∷ (gives (le32 (partAt regexOf 4 0x0B first)), gives 0x61)
+    ∷ (gives (le32 (partAt regexOf 4 0x0B second)), gives 0x69)
+    -- what typed getters give: a part, a number
+    ∷ (gives (le32 (getPart regexOf [] 0x0B second)), gives 0x69)
+    ∷ (gives (length (getPart regexOf [] 0x02 first)), gives 0)
+    ∷ (then (typed bool twoKeys (0x61 ∷ []) 0x08) (λ b. gives (cond b 1 0)), gives 0)
+    -- the framed bytes that a lookup hands back
+    ∷ (gives (length (getBytes oldBinary [])), gives 10)
+    ∷ []
+
+-- the plain check
+unfoldable pub checkPoints : List Point
+checkPoints =
+    -- a zero byte met as a tag is no end: it is in no row of the table
+    (check false (0x07 ∷ 0 ∷ 0 ∷ 0 ∷ 0 ∷ 0 ∷ 0 ∷ []), refuses 7 4)
+    -- a negative length of an embedded document
+    ∷ (check false (0x0B ∷ 0 ∷ 0 ∷ 0 ∷ 0x03 ∷ 0 ∷ 0xFF ∷ 0xFF ∷ 0xFF ∷ 0xFF ∷ 0 ∷ []), refuses 8 4)
+    -- data of subtype 2: one byte behind its length, and under four bytes
+    ∷ (check false oldBinary, gives 1)
+    ∷ (check false (0x0F ∷ 0 ∷ 0 ∷ 0 ∷ 0x05 ∷ 0 ∷ 0x03 ∷ 0 ∷ 0 ∷ 0 ∷ 0x02 ∷ 0 ∷ 0 ∷ 0 ∷ 0 ∷ []), refuses 12 4)
+    ∷ []
+
+-- scopes and documents inside
+unfoldable pub scopePoints : List Point
+scopePoints =
     -- values inside a scope are counted
     (check false nullInScope, gives 2)
     -- bad code text and bad scope: the order of the text
@@ -69,65 +150,13 @@ points =
     ∷ (check false (scopeOf 6), refuses 2 4)
     -- places in nested documents count in the outermost slice
     ∷ (check false (0x0E ∷ 0 ∷ 0 ∷ 0 ∷ 0x03 ∷ 0 ∷ 0x07 ∷ 0 ∷ 0 ∷ 0 ∷ 0x14 ∷ 0 ∷ 0 ∷ 0 ∷ []), refuses 7 10)
-    -- a zero byte met as a tag is no end: it is in no row of the table
-    ∷ (check false (0x07 ∷ 0 ∷ 0 ∷ 0 ∷ 0 ∷ 0 ∷ 0 ∷ []), refuses 7 4)
-    -- admission comes before the ended mark
-    ∷ (given (step (0x05 ∷ 0 ∷ 0 ∷ 0 ∷ []) (cursor 4 true)), refuses 1 0)
-    ∷ (given (step empty (cursor 99 true)), gives 0)
-    -- 4 at that very offset, however large
-    ∷ (given (step empty (cursor 3 false)), refuses 4 3)
-    ∷ (given (step empty (cursor 5 false)), refuses 4 5)
-    ∷ (given (readAt empty 0xFFFF_FFFF_FFFF_FFFF), refuses 4 0xFFFF_FFFF_FFFF_FFFF)
-    -- reading at the terminator
-    ∷ (given (readAt empty 4), refuses 16 4)
-    -- a key with a zero byte, or not UTF-8, matches nothing
-    ∷ (given (get twoKeys (0x61 ∷ 0 ∷ [])), refuses 16 12)
-    ∷ (given (get twoKeys (0xFF ∷ [])), refuses 16 12)
-    -- a typed lookup by the element's tag, another, and one outside the table; the place of 17
-    ∷ (given (getWith twoKeys (0x61 ∷ []) 0x08), gives 0)
-    ∷ (given (getWith twoKeys (0x61 ∷ []) 0x10), refuses 17 4)
-    ∷ (given (getWith twoKeys (0x61 ∷ []) 0x14), refuses 17 4)
-    ∷ (given (getWith twoKeys (0x62 ∷ []) 0x14), refuses 16 12)
-    -- the value's refusal comes before 17, in a lookup and in a reading; a value of its tag, and of another
-    ∷ (given (getWith badBoolean [] 0x10), refuses 11 4)
-    ∷ (given (readWith badBoolean 4 0x10), refuses 11 4)
-    ∷ (given (readWith twoKeys 8 0x08), gives 0)
-    ∷ (given (readWith twoKeys 8 0x10), refuses 17 8)
-    -- an element of the caller's own whose value runs past the slice
-    ∷ (given (valueOf twoKeys (elem 8 0x08 1 1)), gives 0)
-    ∷ (given (valueOf twoKeys (elem 8 0x08 1 3)), refuses 9 8)
-    -- the parts of a value; none where its twin refuses
-    ∷ (gives (le32 (partAt oldBinary 4 0x05 first)), gives 0xAA)
-    ∷ (gives (length (partAt oldBinary 4 0x05 first)), gives 1)
-    ∷ (gives (length (partAt oldBinary 4 0x02 first)), gives 0)
-    ∷ (gives (le32 (partAt regexOf 4 0x0B first)), gives 0x61)
-    ∷ (gives (le32 (partAt regexOf 4 0x0B second)), gives 0x69)
-    -- the key that a step yields, and none at the terminator
-    ∷ (gives (le32 (keyAt twoKeys (cursor 8 false))), gives 0x61)
-    ∷ (gives (length (keyAt twoKeys (cursor 12 false))), gives 0)
-    -- what typed getters give: a part, a number
-    ∷ (gives (le32 (getPart regexOf [] 0x0B second)), gives 0x69)
-    ∷ (gives (length (getPart regexOf [] 0x02 first)), gives 0)
-    ∷ (then (typed bool twoKeys (0x61 ∷ []) 0x08) (λ b. gives (cond b 1 0)), gives 0)
-    -- the framed bytes that a lookup hands back
-    ∷ (gives (length (getBytes oldBinary [])), gives 10)
-    -- a strict array key: ASCII digits, one or more
-    ∷ (check true (arrayKeyed 0x30 0x39), gives 2)
-    ∷ (check true (arrayKeyed 0x2F 0x30), refuses 19 10)
-    ∷ (check true (arrayKeyed 0x30 0x3A), refuses 19 10)
-    ∷ (check true (0x0E ∷ 0 ∷ 0 ∷ 0 ∷ 0x04 ∷ 0 ∷ 0x07 ∷ 0 ∷ 0 ∷ 0 ∷ 0x0A ∷ 0 ∷ 0 ∷ 0 ∷ []), refuses 19 10)
-    ∷ (check false (arrayKeyed 0x30 0x3A), gives 2)
-    -- `is_empty`
-    ∷ (then (isEmpty empty) (λ b. gives (cond b 1 0)), gives 1)
-    ∷ (then (isEmpty twoKeys) (λ b. gives (cond b 1 0)), gives 0)
-    ∷ (given (isEmpty (0x06 ∷ 0 ∷ 0 ∷ 0 ∷ 0 ∷ [])), refuses 2 0)
-    -- a negative length of an embedded document
-    ∷ (check false (0x0B ∷ 0 ∷ 0 ∷ 0 ∷ 0x03 ∷ 0 ∷ 0xFF ∷ 0xFF ∷ 0xFF ∷ 0xFF ∷ 0 ∷ []), refuses 8 4)
-    -- data of subtype 2: one byte behind its length, and under four bytes
-    ∷ (check false oldBinary, gives 1)
-    ∷ (check false (0x0F ∷ 0 ∷ 0 ∷ 0 ∷ 0x05 ∷ 0 ∷ 0x03 ∷ 0 ∷ 0 ∷ 0 ∷ 0x02 ∷ 0 ∷ 0 ∷ 0 ∷ 0 ∷ []), refuses 12 4)
+    ∷ []
+
+-- depth
+unfoldable pub depthPoints : List Point
+depthPoints =
     -- a value of depth 200, and of 201; inside a document one level deeper, inside a scope two
-    ∷ (walkAt 200 oneNull, gives 1)
+    (walkAt 200 oneNull, gives 1)
     ∷ (walkAt 201 oneNull, refuses 13 4)
     ∷ (walkAt 199 nullWithin, gives 2)
     ∷ (walkAt 200 nullWithin, refuses 13 10)
@@ -136,14 +165,28 @@ points =
     -- reading comes before the depth, and an empty document may lie deeper
     ∷ (walkAt 201 badBoolean, refuses 11 4)
     ∷ (walkAt 202 empty, gives 0)
+    ∷ []
+
+-- the strict check
+unfoldable pub strictPoints : List Point
+strictPoints =
+    -- a strict array key: ASCII digits, one or more
+    (check true (arrayKeyed 0x30 0x39), gives 2)
+    ∷ (check true (arrayKeyed 0x2F 0x30), refuses 19 10)
+    ∷ (check true (arrayKeyed 0x30 0x3A), refuses 19 10)
+    ∷ (check true (0x0E ∷ 0 ∷ 0 ∷ 0 ∷ 0x04 ∷ 0 ∷ 0x07 ∷ 0 ∷ 0 ∷ 0 ∷ 0x0A ∷ 0 ∷ 0 ∷ 0 ∷ []), refuses 19 10)
+    ∷ (check false (arrayKeyed 0x30 0x3A), gives 2)
     -- the key of an array comes before reading
     ∷ (check true (0x0F ∷ 0 ∷ 0 ∷ 0 ∷ 0x04 ∷ 0 ∷ badBoolean ++ (0 ∷ [])), refuses 19 10)
     ∷ []
 
-abbrev pub saidOf : List (Answer ℕ × Answer ℕ) → List (Answer ℕ)
+abbrev pub saidOf : List Point → List (Answer ℕ)
 saidOf [] = []
 saidOf (p ∷ ps) = p .0 ∷ saidOf ps
 
-abbrev pub settledOf : List (Answer ℕ × Answer ℕ) → List (Answer ℕ)
+abbrev pub settledOf : List Point → List (Answer ℕ)
 settledOf [] = []
 settledOf (p ∷ ps) = p .1 ∷ settledOf ps
+
+abbrev pub Hold : List Point → Type 0
+Hold points = saidOf points ≡ settledOf points
