@@ -116,6 +116,11 @@ def nested(k, tag=DOCUMENT, key="", innermost=doc()):
     return d
 
 
+def scope_below(depth, scope):
+    """A code with scope at a depth, under empty keys."""
+    return nested(depth, innermost=doc(element(SCOPE, "", with_scope("", scope))))
+
+
 def bytes_to_try():
     """Document 01's table: each document, and the result of the whole check."""
     for row in TRY.split("\n"):
@@ -332,8 +337,8 @@ def nesting():
         for d in inner:
             yield nested(k, SCOPE, innermost=d), []
     for k in (198, 199, 200):
-        yield nested(k, innermost=doc(element(SCOPE, "", with_scope("", inner[1])))), []
-        yield nested(k, innermost=doc(element(SCOPE, "", with_scope("", inner[0])))), []
+        yield scope_below(k, inner[1]), []
+        yield scope_below(k, inner[0]), []
         yield nested(k, innermost=doc(element(SCOPE, "", le(3)))), []
     yield doc(element(DOCUMENT, "", nested(200)), element(DOCUMENT, "", nested(201)), element(0x14, "")), []
 
@@ -371,13 +376,18 @@ def lookups():
         yield doc(element(0x02, "note", le(n) + b"ok\0" + full + b"\0"), BATTERY), gets("battery") + typed("battery", INT32)
 
 
+def keyed(*keys):
+    """An array `a` of nulls under these keys."""
+    return doc(element(ARRAY, "a", doc(*(element(NULL, key) for key in keys))))
+
+
 def array_keys():
     """Array keys for the strict check, at the top of an array and below."""
     digits = [["0"], ["0", "1"], ["9", "7"], ["00"], ["0", "0"], ["4294967296"]]
     others = [[""], ["/"], [":"], ["a"], ["1a"], ["-1"], ["+1"], [" 1"], ["٣"], ["0", "x"], ["xxx", "0"]]
     for keys in digits + others:
         array = doc(*(element(NULL, key) for key in keys))
-        yield doc(element(ARRAY, "a", array)), gets("a")
+        yield keyed(*keys), gets("a")
         yield doc(element(DOCUMENT, "a", array), element(ARRAY, "x", doc(element(DOCUMENT, "0", array)))), gets("a")
         yield doc(element(ARRAY, "x", doc(element(ARRAY, "0", array), element(0x08, "y", b"\2")))), gets("a")
         yield doc(element(ARRAY, "x", doc(element(SCOPE, "0", with_scope("", doc(element(ARRAY, "s", array))))))), gets("a")

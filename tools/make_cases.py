@@ -14,13 +14,11 @@ import subprocess
 import sys
 
 import rules
-from documents import beacon, bytes_to_try, documents
+from documents import NULL, beacon, bytes_to_try, doc, documents, element, keyed, scope_below
 from questions import all_questions
 from rules import Refused
 
 ROOT = os.path.join(os.path.dirname(os.path.abspath(__file__)), "..")
-# the parts that no code answers yet
-LEFT = ("check", "strict")
 
 
 # ---- a line of the list, by the rules
@@ -128,13 +126,8 @@ def parts_of(lines):
 
 def totals(lines):
     """Its last line: every step is an answer, every value one, every other part one."""
-    alike = left = 0
-    for fields in parts_of(lines):
-        if fields[0] in LEFT:
-            left += 1
-        else:
-            alike += 2 if is_element(fields) else 1
-    return f"{len(lines)} documents, {alike} answers alike, 0 differ, {left} left"
+    alike = sum(2 if is_element(fields) else 1 for fields in parts_of(lines))
+    return f"{len(lines)} documents, {alike} answers alike, 0 differ"
 
 
 # the numbers by which each call can be refused
@@ -164,11 +157,31 @@ def try_documents(lines):
     assert tags == {*rules.FIXED, *rules.FRAMED}, tags
 
 
-def try_rules():
-    """The rules say of document 01's table what it says."""
+def stated():
+    """By name a document, and what its plain and its strict check must say by document 01's text, worked out by hand.
+
+    Under empty keys the element of depth k lies at 4 + 6 k. A scope's values lie two deeper, the first 15 behind the scope's tag.
+    """
     for d, result in bytes_to_try():
-        said = answer(lambda: (rules.check(d),)).split(" ")
-        assert result == (f"{said[3]} at {said[2]}" if said[0] == "refused" else said[0]), d.hex()
+        yield d.hex(), d, result, result
+    for depth, empty, holding in ((198, "199", "200"), (199, "200", "13 at 1213"), (200, "201", "13 at 1219"), (201, "13 at 1210", "13 at 1210")):
+        yield f"empty scope at {depth}", scope_below(depth, doc()), empty, empty
+        yield f"scope at {depth}", scope_below(depth, doc(element(NULL, ""))), holding, holding
+    for key, strict in (("", "19 at 11"), ("a", "19 at 11"), ("1a", "19 at 11"), ("01", "2"), ("7", "2"), ("0", "2")):
+        yield f"array keyed {key}", keyed(key), "2", strict
+
+
+def result(d, strict):
+    said = answer(lambda: (rules.check(d, strict),)).split(" ")
+    return f"{said[3]} at {said[2]}" if said[0] == "refused" else said[0]
+
+
+def try_checks():
+    """The rules say what is stated, and each such document is in the list or asked by itself."""
+    listed, asked = dict(documents()), all_questions()
+    for name, d, plain, strict in stated():
+        assert (result(d, False), result(d, True)) == (plain, strict), name
+        assert d in listed or {f"check {d.hex()}", f"strict {d.hex()}"} <= asked.keys(), name
 
 
 def refusal(rule, *args):
@@ -227,7 +240,7 @@ def main():
     checking = "--check" in sys.argv[1:]
     if not oracle and not checking:
         sys.exit(__doc__)
-    try_rules()
+    try_checks()
     lines = [line(d, asks) for d, asks in documents()]
     try_documents(lines)
     try_lookups()

@@ -1,10 +1,10 @@
 """Questions that no document of the list asks. To single leaves: short slices, texts and keys by themselves, every class behind every
-tag. At any place of a document: a step from any cursor, a value, a part by its name.
+tag. At any place of a document: a step from any cursor, a value, a part by its name. The whole check of a few more documents.
 
 Each is a line for the vectors program and the answer that document 01's rules give, as the program prints it.
 """
 import rules
-from documents import BATTERY, NULL, SAMPLED, TRY, bytes_to_try, doc, element, le, row_texts, text
+from documents import BATTERY, NULL, SAMPLED, TRY, bytes_to_try, doc, element, keyed, le, row_texts, scope_below, text
 from rules import FIXED, FRAMED, PARTS, Refused, admit, boolean, cstring, is_utf8, signed, unsigned, value_size
 
 questions = {}
@@ -188,8 +188,26 @@ def part_questions():
                     ask_at("part", said_part(s, place, name), s, place, name)
 
 
+# ---- the whole check
+
+
+def said_check(s, strict):
+    try:
+        return f"accepts {rules.check(s, strict)}"
+    except Refused as r:
+        return refused(r)
+
+
+def check_questions():
+    """A scope too deep, and array keys of digits that begin with 0 or are one other digit."""
+    for s in (scope_below(201, doc()), scope_below(201, doc(element(NULL, ""))), keyed("01"), keyed("7")):
+        ask("check", said_check(s, False), s)
+        ask("strict", said_check(s, True), s)
+
+
 GROUPS = (
     utf8_questions, cstring_questions, number_questions, length_questions, tag_questions, admission_questions, place_questions, part_questions,
+    check_questions,
 )
 
 

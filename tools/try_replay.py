@@ -6,7 +6,7 @@ usage: tools/try_replay.py VECTORS     the built program
 import subprocess
 import sys
 
-from make_cases import LEFT, documents, line
+from make_cases import documents, line
 
 EVERY = 40  # one document of the list in so many
 # how many fields of a part say what is asked: another key or tag might have the same answer, so these are made unreadable
@@ -14,10 +14,9 @@ ASKED = {"get": 2, "typed": 3}
 
 
 def compared(fields):
-    """The fields of a part that the program compares: all but a refusal's kind; of a part that is left, the word."""
-    if fields[0] in LEFT:
-        return [0]
-    return [j for j in range(1, len(fields)) if fields[j - 1] != "refused"]
+    """The fields of a part that the program compares: all but a refusal's kind, and a step's word, without which the next steps differ too."""
+    first = 1 if fields[0] == "at" else 0
+    return [j for j in range(first, len(fields)) if "refused" not in fields[j - 1 : j]]
 
 
 def wrong(fields, j):
@@ -43,7 +42,7 @@ def main():
             reports.append(f"differs: {bad} of {d.hex()}")
     said = subprocess.run([sys.argv[1]], input="".join(f"{t}\n" for t in lines), capture_output=True, text=True, check=True).stdout.splitlines()
     missed = [r for r in reports if r not in set(said)]
-    if said[:-1] != reports or f", {len(reports)} differ, " not in said[-1]:
+    if said[:-1] != reports or not said[-1].endswith(f", {len(reports)} differ"):
         sys.exit("\n".join(["the replay did not report just the wrong parts", *missed[:5]]))
     print(f"the replay reports each of {len(reports)} wrong fields")
 

@@ -2,9 +2,6 @@
 use crate::lookups::answer_get;
 use crate::lookups::answer_typed;
 use crate::progress::Progress;
-use crate::progress::Verdict;
-use crate::progress::judge;
-use crate::progress::left;
 use crate::steps::answer_step;
 use crate::steps::first_step;
 use crate::text::field_count;
@@ -18,37 +15,44 @@ use crate::text::word_number;
 use crate::values::is_refusal;
 use cstr::Length;
 use document::Empty;
+use whole::Verdict;
 
 // `admission LENGTH`, or a refusal.
-fn answer_admission(answer: &[u8], document: &[u8]) -> Verdict {
+fn answer_admission(answer: &[u8], document: &[u8]) -> bool {
     match document::from_bytes(document) {
-        Length::Is(n) => judge((field_count(answer) == 2) & is_field(answer, 1, n as u64)),
-        Length::Refused(number) => judge(is_refusal(fields_from(answer, 1), 0, number)),
+        Length::Is(n) => (field_count(answer) == 2) & is_field(answer, 1, n as u64),
+        Length::Refused(number) => is_refusal(fields_from(answer, 1), 0, number),
+    }
+}
+
+// `check COUNT`, `strict COUNT`, or a refusal.
+fn answer_check(answer: &[u8], verdict: Verdict) -> bool {
+    match verdict {
+        Verdict::Accepted(n) => (field_count(answer) == 2) & is_field(answer, 1, n as u64),
+        Verdict::Refused { number, place } => is_refusal(fields_from(answer, 1), place, number),
     }
 }
 
 // `empty yes`, `empty no`, or a refusal.
-fn answer_empty(answer: &[u8], document: &[u8]) -> Verdict {
+fn answer_empty(answer: &[u8], document: &[u8]) -> bool {
     let said = fields_from(answer, 1);
     match document::is_empty(document) {
-        Empty::Is(yes) => {
-            judge((yes & cstr::equal(said, b"yes")) | (!yes & cstr::equal(said, b"no")))
-        }
-        Empty::Refused(number) => judge(is_refusal(said, 0, number)),
+        Empty::Is(yes) => (yes & cstr::equal(said, b"yes")) | (!yes & cstr::equal(said, b"no")),
+        Empty::Refused(number) => is_refusal(said, 0, number),
     }
 }
 
-// Who answers a part, by the number of its word. Nobody answers the third and the fourth yet: these are left,
-// unless fields are missing. A part of any other word differs.
+// Who answers a part, by the number of its word. A part of any other word differs.
 fn answer_part(answer: &[u8], document: &[u8], progress: Progress) -> Progress {
     match word_number(b"admission at check strict empty get typed", answer) {
         1 => progress.with_answer(answer_admission(answer, document)),
         2 => answer_step(answer, document, progress),
-        3 | 4 => progress.with_answer(left(2 <= field_count(answer))),
+        3 => progress.with_answer(answer_check(answer, whole::check(document))),
+        4 => progress.with_answer(answer_check(answer, whole::check_strict(document))),
         5 => progress.with_answer(answer_empty(answer, document)),
         6 => progress.with_answer(answer_get(answer, document)),
         7 => progress.with_answer(answer_typed(answer, document)),
-        _ => progress.with_answer(Verdict::Differs),
+        _ => progress.with_answer(false),
     }
 }
 
@@ -121,7 +125,7 @@ fn replay_unhexed(line: &[u8], document: &[u8], progress: Progress) -> Progress 
         return replay_parts(parts_of(line), document, hex, begun);
     }
     say_differs(head, hex);
-    begun.with_answer(Verdict::Differs)
+    begun.with_answer(false)
 }
 
 // A line `document HEX; ..`. It does little itself: what stands beside so large an array is slow to prove.

@@ -1,7 +1,5 @@
 // Replays lookups: `get KEY ..` and `typed KEY TAG ..`.
 use crate::getters::is_getter;
-use crate::progress::Verdict;
-use crate::progress::judge;
 use crate::text::byte_of;
 use crate::text::field;
 use crate::text::fields_from;
@@ -55,14 +53,14 @@ fn is_typed(answer: &[u8], document: &[u8], key: &[u8]) -> bool {
 }
 
 // A key that has no room here differs: it is not all that the hexadecimal names.
-pub fn answer_get(answer: &[u8], document: &[u8]) -> Verdict {
+pub fn answer_get(answer: &[u8], document: &[u8]) -> bool {
     let mut key = [0u8; 64];
     let n = unhex(field(answer, 1), &mut key);
-    judge(is_get(answer, document, &key[..n]))
+    is_get(answer, document, &key[..n])
 }
 
-pub fn answer_typed(answer: &[u8], document: &[u8]) -> Verdict {
+pub fn answer_typed(answer: &[u8], document: &[u8]) -> bool {
     let mut key = [0u8; 64];
     let n = unhex(field(answer, 1), &mut key);
-    judge(is_typed(answer, document, &key[..n]))
+    is_typed(answer, document, &key[..n])
 }

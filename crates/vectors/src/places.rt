@@ -1,4 +1,4 @@
-// Questions at a place of a document: a step at any cursor, a value, a part of a value.
+// Questions about a document: at a place a step from any cursor, a value, a part of a value; the whole check.
 use crate::text::field;
 use crate::text::number_of;
 use crate::text::say;
@@ -12,6 +12,7 @@ use iter::Element;
 use iter::Step;
 use part::Part;
 use reading::Reading;
+use whole::Verdict;
 
 fn say_refusal(number: u8, place: usize) {
     say(b"refuses ");
@@ -90,6 +91,16 @@ fn say_reading(reading: Reading) {
     }
 }
 
+fn say_verdict(verdict: Verdict) {
+    match verdict {
+        Verdict::Accepted(n) => {
+            say(b"accepts ");
+            say_number(n as u64);
+        }
+        Verdict::Refused { number, place } => say_refusal(number, place),
+    }
+}
+
 fn part_named<'a>(name: usize, document: &'a [u8], place: usize) -> &'a [u8] {
     match name {
         1 => parts::string(document, place),
@@ -118,6 +129,15 @@ pub fn ask_step(line: &[u8], document: &[u8]) {
 // `read BYTES PLACE`.
 pub fn ask_value(line: &[u8], document: &[u8]) {
     say_reading(reading::read_at(document, number_of(field(line, 2))));
+}
+
+// `check BYTES`, and `strict BYTES`.
+pub fn ask_check(strict: bool, document: &[u8]) {
+    if strict {
+        say_verdict(whole::check_strict(document));
+    } else {
+        say_verdict(whole::check(document));
+    }
 }
 
 // `part BYTES PLACE NAME`.

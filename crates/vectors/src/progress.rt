@@ -3,36 +3,11 @@ use crate::text::say;
 use crate::text::say_number;
 use iter::Cursor;
 
-// Left: nobody answers it yet.
-pub enum Verdict {
-    Alike,
-    Differs,
-    Left,
-}
-
-pub fn judge(alike: bool) -> Verdict {
-    if alike {
-        Verdict::Alike
-    } else {
-        Verdict::Differs
-    }
-}
-
-// Of an answer that nobody gives yet: it is left, unless it can't be read.
-pub fn left(readable: bool) -> Verdict {
-    if readable {
-        Verdict::Left
-    } else {
-        Verdict::Differs
-    }
-}
-
 // The cursor is what the last step left; it has ended where no step follows.
 pub struct Progress {
     pub documents: u64,
     pub alike: u64,
     pub differ: u64,
-    pub left: u64,
     pub cursor: Cursor,
 }
 
@@ -51,7 +26,6 @@ impl Progress {
             documents: 0,
             alike: 0,
             differ: 0,
-            left: 0,
             cursor,
         }
     }
@@ -62,16 +36,16 @@ impl Progress {
         self
     }
 
-    pub fn with_step(mut self, cursor: Cursor, v: Verdict) -> Self {
+    pub fn with_step(mut self, cursor: Cursor, alike: bool) -> Self {
         self.cursor = cursor;
-        self.with_answer(v)
+        self.with_answer(alike)
     }
 
-    pub fn with_answer(mut self, v: Verdict) -> Self {
-        match v {
-            Verdict::Alike => self.alike = more(self.alike),
-            Verdict::Differs => self.differ = more(self.differ),
-            Verdict::Left => self.left = more(self.left),
+    pub fn with_answer(mut self, alike: bool) -> Self {
+        if alike {
+            self.alike = more(self.alike);
+        } else {
+            self.differ = more(self.differ);
         }
         self
     }
@@ -86,8 +60,6 @@ impl Progress {
         say_number(self.alike);
         say(b" answers alike, ");
         say_number(self.differ);
-        say(b" differ, ");
-        say_number(self.left);
-        say(b" left\n");
+        say(b" differ\n");
     }
 }

@@ -1,5 +1,6 @@
 // Replays a question: a line is a word that names the leaf or the call, its bytes in hexadecimal, and what else it takes;
 // it is printed again with the answer behind it.
+use crate::places::ask_check;
 use crate::places::ask_part;
 use crate::places::ask_step;
 use crate::places::ask_value;
@@ -86,10 +87,12 @@ fn ask(line: &[u8], first: &[u8], second: &[u8]) -> Reading {
 fn say_answer(line: &[u8], first: &[u8], second: &[u8]) {
     say(line);
     say(b" ");
-    match word_number(b"step read part", line) {
+    match word_number(b"step read part check strict", line) {
         1 => ask_step(line, first),
         2 => ask_value(line, first),
         3 => ask_part(line, first),
+        4 => ask_check(false, first),
+        5 => ask_check(true, first),
         _ => say_reading(ask(line, first, second)),
     }
     say(b"\n");

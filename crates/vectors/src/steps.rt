@@ -1,7 +1,5 @@
 // Replays a step: an element with its value, the end, or a refusal, from the cursor that the last step left.
 use crate::progress::Progress;
-use crate::progress::Verdict;
-use crate::progress::judge;
 use crate::text::field;
 use crate::text::fields_from;
 use crate::text::is_byte;
@@ -70,19 +68,19 @@ fn are_parts(document: &[u8], place: usize, tag: u8, first: Part, second: Part) 
 }
 
 // The value of an element; the parts of a refused one are empty.
-fn answer_value(said: &[u8], document: &[u8], element: Element) -> Verdict {
+fn answer_value(said: &[u8], document: &[u8], element: Element) -> bool {
     let at = element.place;
     let tag = element.tag;
     match reading::read_at(document, at) {
         Reading::Refused { number, place } => {
             let none = Part { offset: 0, size: 0 };
-            judge(is_refusal(said, place, number) & are_parts(document, at, tag, none, none))
+            is_refusal(said, place, number) & are_parts(document, at, tag, none, none)
         }
         Reading::Is(value) => {
             let parts = reading::parts_of(value);
             let first = parts.0;
             let second = parts.1;
-            judge(is_value(said, value) & are_parts(document, at, tag, first, second))
+            is_value(said, value) & are_parts(document, at, tag, first, second)
         }
     }
 }
@@ -108,7 +106,7 @@ fn is_ended(document: &[u8], cursor: Cursor, next: Cursor) -> bool {
 pub fn answer_step(answer: &[u8], document: &[u8], progress: Progress) -> Progress {
     let cursor = progress.cursor;
     if cursor.ended {
-        return progress.with_answer(Verdict::Differs);
+        return progress.with_answer(false);
     }
     let is_offset = is_field(answer, 1, cursor.offset as u64);
     let said = fields_from(answer, 2);
@@ -116,12 +114,12 @@ pub fn answer_step(answer: &[u8], document: &[u8], progress: Progress) -> Progre
         Step::Yield { element, next } => progress
             .with_step(
                 next,
-                judge(is_element(answer, document, cursor, element) & is_laid(element, next)),
+                is_element(answer, document, cursor, element) & is_laid(element, next),
             )
             .with_answer(answer_value(fields_from(answer, 5), document, element)),
         Step::End { next } => progress.with_step(
             next,
-            judge(is_offset & cstr::equal(said, b"end") & is_ended(document, cursor, next)),
+            is_offset & cstr::equal(said, b"end") & is_ended(document, cursor, next),
         ),
         Step::Refused {
             number,
@@ -129,7 +127,7 @@ pub fn answer_step(answer: &[u8], document: &[u8], progress: Progress) -> Progre
             next,
         } => progress.with_step(
             next,
-            judge(is_offset & is_refusal(said, place, number) & is_ended(document, cursor, next)),
+            is_offset & is_refusal(said, place, number) & is_ended(document, cursor, next),
         ),
     }
 }
