@@ -11,5 +11,8 @@ pub mod ArrayKey
 pub mod Level
 pub mod Check
 pub mod Reach
+pub mod Decimal
+pub mod Output
+pub mod Report
 pub mod Vectors
 pub mod Decided
