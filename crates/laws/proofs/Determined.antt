@@ -10,6 +10,10 @@ Determined {A} {S} P = (r₁ r₂ : A) (s₁ s₂ : S) → P r₁ s₁ → P r�
 abbrev pub DeterminedPart : {A B S : Type 0} → (A → B) → (A → S → Type 0) → Type 0
 DeterminedPart {A} {B} {S} now P = (r₁ r₂ : A) (s₁ s₂ : S) → P r₁ s₁ → P r₂ s₂ → now r₁ ≡ now r₂
 
+-- of a lent buffer, what is left in it too
+abbrev pub DeterminedBuf : {A S B : Type 0} → (S → B) → (A → S → Type 0) → Type 0
+DeterminedBuf {A} {S} {B} left P = (r₁ r₂ : A) (s₁ s₂ : S) → P r₁ s₁ → P r₂ s₂ → (r₁ ≡ r₂) × (left s₁ ≡ left s₂)
+
 -- a meaning that can be read back is another's for no other case
 pub injective-by : {A B : Type 0} (said : A → B) (unsaid : B → A) → ((a : A) → unsaid (said a) ≡ a) → (a b : A) → said a ≡ said b → a ≡ b
 injective-by said unsaid again a b e = sym (again a) ∙ ap unsaid e ∙ again b

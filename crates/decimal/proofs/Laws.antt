@@ -1,0 +1,110 @@
+-- What follows from the definition of a number in decimal. Assumes nothing.
+use Prim.Native.Nat.{ℕ, zero, suc, _+_, _-_, _*_, _/_, _%_, _^_, _≤_, _<_}
+use mathlib.Core.Path.{_≡_, refl, sym, ap, _∙_}
+use mathlib.Core.List.{List, [], _∷_, _++_}
+use native.Mathlib.Nat.{add-comm, div-lt-self, div-lt-iff-lt-mul, pow-suc}
+use native.Mathlib.Numerals.{add-one, sub-one}
+use native.Mathlib.Omega.{arith}
+use lib.Dec.{ltb}
+use lib.ListN.{length, set, length-append}
+use borrow.Author.Tests.{lt-ltb, le-ltb, ltb-true, ltb-false}
+use Rattle.bson.specs.Decimal.{digits, widthFor, width, decimal}
+use Rattle.bson.specs.Output.{put}
+use Rattle.laws.proofs.Common.{split}
+use Rattle.output.proofs.Laws.{put-back}
+
+pub tenth : (n : ℕ) → 10 ≤ n → n / 10 < n
+tenth n h = div-lt-self (omega arith) (omega arith)
+
+-- turns enough are enough
+width-for : (j k n : ℕ) → n < j → n < k → widthFor j n ≡ widthFor k n
+unfolding widthFor
+width-for zero k n h g = absurd (omega arith)
+width-for (suc j) zero n h g = absurd (omega arith)
+width-for (suc j) (suc k) n h g =
+    split (ltb n 10) (λ e. rw e)
+    (λ e. let l = tenth n (ltb-false n 10 e) in rw e (ap (λ (w : ℕ). 1 + w) (width-for j k (n / 10) (omega arith) (omega arith))))
+
+pub width-digit : (n : ℕ) → n < 10 → width n ≡ 1
+unfolding width widthFor
+width-digit n h = simp (lt-ltb n 10 h)
+
+pub width-eq : (n : ℕ) → 10 ≤ n → width n ≡ 1 + width (n / 10)
+unfolding width widthFor
+width-eq n h = rw (le-ltb n 10 h) (ap (λ (w : ℕ). 1 + w) (width-for n (suc (n / 10)) (n / 10) (tenth n h) (omega arith)))
+
+pub width-positive : (n : ℕ) → 1 ≤ width n
+width-positive n =
+    split (ltb n 10)
+    (λ e. omega (arith, width-digit n (ltb-true n 10 e)))
+    (λ e. omega (arith, width-eq n (ltb-false n 10 e)))
+
+-- a number below a power of ten has no more digits
+pub width-within : (k n : ℕ) → n < 10 ^ suc k → width n ≤ suc k
+width-within zero n h = omega (arith, width-digit n h)
+width-within (suc k) n h =
+    split (ltb n 10)
+    (λ e. omega (arith, width-digit n (ltb-true n 10 e)))
+    (λ e. omega (arith, width-eq n (ltb-false n 10 e), width-within k (n / 10) (div-lt-iff-lt-mul (omega arith) .1 (rw (← pow-suc 10 (suc k)) h))))
+
+pub width-small : (n : ℕ) → n < 2 ^ 64 → width n ≤ 20
+width-small n h = width-within 19 n (omega arith)
+
+pub length-digits : (k n : ℕ) → length (digits k n) ≡ k
+unfolding digits
+length-digits zero n = refl
+length-digits (suc k) n = simp (length-append, length-digits k (n / 10)) (add-one k)
+
+pub length-decimal : (n : ℕ) → length (decimal n) ≡ width n
+unfolding decimal
+length-decimal n = length-digits (width n) n
+
+digits-step : (i m : ℕ) → 0 < i → digits i m ≡ digits (i - 1) (m / 10) ++ ((48 + m % 10) ∷ [])
+unfolding digits
+digits-step zero m h = absurd (omega arith)
+digits-step (suc i) m h = simp (sub-one)
+
+-- one turn: the last digit stored, the rest is left to do
+pub digit-turn : (buffer : List ℕ) (at i m : ℕ) → 0 < i → at + i ≤ length buffer
+    → put (set buffer (at + (i - 1)) (48 + m % 10)) at (digits (i - 1) (m / 10)) ≡ put buffer at (digits i m)
+digit-turn buffer at i m h g =
+    let e : length (digits (i - 1) (m / 10)) ≡ i - 1 = length-digits (i - 1) (m / 10) in
+    ap (λ (k : ℕ). put (set buffer (at + k) (48 + m % 10)) at (digits (i - 1) (m / 10))) (sym e)
+    ∙ put-back buffer at (digits (i - 1) (m / 10)) (48 + m % 10) (omega arith)
+    ∙ ap (put buffer at) (sym (digits-step i m h))
+
+-- the digits name the number
+
+-- the number that digits name behind another's
+abbrev namedFrom : ℕ → List ℕ → ℕ
+namedFrom n [] = n
+namedFrom n (d ∷ ds) = namedFrom (10 * n + (d - 48)) ds
+
+abbrev pub named : List ℕ → ℕ
+named ds = namedFrom 0 ds
+
+named-last : (ds : List ℕ) (n d : ℕ) → namedFrom n (ds ++ (d ∷ [])) ≡ 10 * namedFrom n ds + (d - 48)
+named-last [] n d = refl
+named-last (e ∷ ds) n d = named-last ds (10 * n + (e - 48)) d
+
+digits-named : (k n : ℕ) → n < 10 ^ k → named (digits k n) ≡ n
+unfolding digits
+digits-named zero n h = omega arith
+digits-named (suc k) n h =
+    let r = digits-named k (n / 10) (div-lt-iff-lt-mul (omega arith) .1 (rw (← pow-suc 10 k) h)) in
+    named-last (digits k (n / 10)) 0 (48 + n % 10) ∙ omega arith
+
+width-holds : (k n : ℕ) → n < k → n < 10 ^ widthFor k n
+unfolding widthFor
+width-holds zero n h = absurd (omega arith)
+width-holds (suc k) n h =
+    split (ltb n 10) (λ e. rw e (ltb-true n 10 e))
+    (λ e. let l = tenth n (ltb-false n 10 e) in
+    let w = widthFor k (n / 10) in
+    let z : 0 < 10 = omega arith in
+    let f : n < 10 ^ w * 10 = div-lt-iff-lt-mul z .0 (width-holds k (n / 10) (omega arith)) in
+    rw (e, add-comm 1 w, add-one, pow-suc 10 w) f)
+
+pub decimal-named : (n : ℕ) → named (decimal n) ≡ n
+unfolding decimal width
+decimal-named n = digits-named (width n) n (width-holds (suc n) n (omega arith))
