@@ -1,0 +1,4 @@
+pub mod Lines
+pub mod Along
+pub mod Fits
+pub mod Determined

@@ -1,0 +1,21 @@
+-- `report::hex_digit` meets its contract: the test is that of the definition. Assumes nothing.
+use native.Mathlib.Omega.{arith}
+use borrow.Author.Tests.{lt-ltb, le-ltb}
+use borrow.Author.Needs.{needs}
+use Rattle.report.proofs.hex_digit.Statement.{statement}
+use Rattle.report.proofs.hex_digit.Tie as tie
+
+add-result : tie.Need-add-result
+add-result c = search needs
+
+add-result-2 : tie.Need-add-result-2
+add-result-2 c = search needs
+
+returns : tie.Need-returns
+returns c = simp (lt-ltb (c .before .args .d) 10 (omega arith))
+
+returns-2 : tie.Need-returns-2
+returns-2 c = simp (le-ltb (c .before .args .d) 10 (omega arith))
+
+pub hex-digit-spec : {M : Type 1} → statement M
+hex-digit-spec = tie.close (tie.spec add-result add-result-2 returns returns-2)
