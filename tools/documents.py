@@ -399,7 +399,7 @@ def array_keys():
 # ---- a beacon frame, battery first
 
 
-def beacon():
+def short_beacon():
     cells = doc(*(element(INT32, str(i), le(mv)) for i, mv in enumerate((4112, 4109, 4115, 4098))))
     power = doc(element(INT32, "battery", le(16434)), element(INT32, "load", le(2310)), element(ARRAY, "cells", cells))
     return doc(
@@ -418,7 +418,7 @@ def beacon():
 
 
 def beacons():
-    d = beacon()
+    d = short_beacon()
     yield d, gets("battery", "note", "power", "load", "fault") + typed("battery", *GETTERS) + typed("power", DOCUMENT)
     for i in range(4, len(d), 3):
         yield d[:i] + bytes([d[i] ^ 0x20]) + d[i + 1 :], gets("battery", "note")

@@ -1,5 +1,5 @@
 #!/usr/bin/env python3
-"""Makes what the vectors program replays, and samples/beacon.bson.
+"""Makes what the vectors program replays.
 
 crates/vectors/stdin holds questions, then the list: a document a line with every answer about it (diff/README.md says
 the form). The answers come from document 01's rules (tools/rules.py) and, for the list, are held against those of the Rust.
@@ -14,7 +14,7 @@ import subprocess
 import sys
 
 import rules
-from documents import NULL, beacon, bytes_to_try, doc, documents, element, keyed, scope_below
+from documents import NULL, bytes_to_try, doc, documents, element, keyed, scope_below
 from questions import all_questions
 from rules import Refused
 
@@ -222,7 +222,6 @@ def files(lines):
     return {
         "crates/vectors/stdin": "".join(f"{t}\n" for t in [*asked, *lines]).encode(),
         "crates/vectors/stdout": "".join(f"{t}\n" for t in [*(f"{q} {a}" for q, a in asked.items()), totals(lines)]).encode(),
-        "samples/beacon.bson": beacon(),
     }
 
 

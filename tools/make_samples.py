@@ -1,0 +1,104 @@
+#!/usr/bin/env python3
+"""Makes the check program's inputs and, by document 01's rules (tools/rules.py), what it must print of each: samples/NAME.bson and
+samples/NAME.txt. samples/beacon.bson comes from tools/make_beacon.py.
+
+usage: tools/make_samples.py                  writes the files
+       tools/make_samples.py --check          the files are what the rules say
+       tools/make_samples.py --large FOLDER   writes inputs about 65,535 bytes long, which are not kept, and what is printed of them
+"""
+import os
+import sys
+
+import rules
+from documents import BATTERY, NULL, SAMPLED, TRY, doc, element, le, nested, text
+from make_beacon import beacon
+from rules import Refused
+
+ROOT = os.path.join(os.path.dirname(os.path.abspath(__file__)), "..")
+LIMIT = 65_535
+
+
+def yielded(s):
+    """The lines of the elements that steps yield, whatever ends them."""
+    try:
+        for e in rules.elements(s):
+            yield f"{e.place} {e.tag:02x} {e.size}"
+    except Refused:
+        return
+
+
+def verdict(s):
+    try:
+        return f"accepted {rules.check(s)}"
+    except Refused as r:
+        return f"refused {r.number} {r.place}"
+
+
+def report(s):
+    lines = [*yielded(s), verdict(s)] if len(s) <= LIMIT else ["refused 20 0"]
+    return "".join(f"{line}\n" for line in ["offset tag size", *lines])
+
+
+def to_try(row):
+    """Row P of document 01's "Bytes to try"."""
+    return bytes.fromhex(TRY.split("\n")[row - 1].split(" = ")[0])
+
+
+def samples():
+    note = element(0x02, "note", text("ok"))
+    return {
+        "beacon": beacon(),
+        "empty": b"",
+        "p5": to_try(5),
+        "p6": to_try(6),
+        "p12": to_try(12),
+        # two elements of every tag
+        "tags": doc(*(element(tag, key, value) for key in "ab" for tag, value in SAMPLED)),
+        # damage behind two elements, and in the second of three, which is yielded all the same
+        "unframed": doc(BATTERY, note, element(0x14, "x"), BATTERY),
+        "unread": doc(BATTERY, element(0x08, "x", b"\2"), note),
+        "deep": nested(202),
+    }
+
+
+def one_value(size):
+    """A document of so many bytes with one binary in it."""
+    return doc(element(0x05, "", le(size - 12) + b"\0" + b"\xff" * (size - 12)))
+
+
+def large():
+    """Documents as long as are taken, of one value and of as many as there can be; and one byte longer."""
+    return {"most": one_value(LIMIT), "many": doc(*[element(NULL, "")] * ((LIMIT - 5) // 2)), "over": one_value(LIMIT + 1)}
+
+
+def files(folder, inputs):
+    for name, data in inputs.items():
+        yield os.path.join(folder, f"{name}.bson"), data
+        yield os.path.join(folder, f"{name}.txt"), report(data).encode()
+
+
+def write(path, data):
+    with open(path, "wb") as file:
+        file.write(data)
+
+
+def is_on_disk(path, data):
+    return os.path.exists(path) and open(path, "rb").read() == data
+
+
+def main():
+    if sys.argv[1:2] == ["--large"]:
+        for path, data in files(sys.argv[2], large()):
+            write(path, data)
+        return
+    made = dict(files(os.path.join(ROOT, "samples"), samples()))
+    if "--check" not in sys.argv[1:]:
+        for path, data in made.items():
+            write(path, data)
+    differ = [os.path.basename(path) for path, data in made.items() if not is_on_disk(path, data)]
+    print(f"{len(samples())} samples" + "".join(f"; {name} differs" for name in differ))
+    sys.exit(1 if differ else 0)
+
+
+if __name__ == "__main__":
+    main()
