@@ -15,11 +15,15 @@ use Rattle.bson.specs.Level.{Opening, closed, opens, opening, Level, out
 abbrev pub Walk : Type 0
 Walk = List ℕ → Level → Answer ℕ
 
--- "read the value, depth (13)"; the strict check also asks, "between step and read", for each key of an array (19)
+-- the strict check asks "that each key of an array is one or more decimal digits"
+abbrev pub keyPasses : Bool → Level → ℕ → List ℕ → Bool
+keyPasses strict l position key = not (strict && l .isArray) || goodArrayKey position key
+
+-- "between step and read" the key (19), then "read the value, depth (13)"
 unfoldable pub visit : Bool → List ℕ → Level → ℕ → Element → Answer Opening
 visit strict s l position e =
     at (l .base + e .place)
-    (unless (not (strict && l .isArray) || goodArrayKey position (bytes s (e .key))) 19
+    (unless (keyPasses strict l position (bytes s (e .key))) 19
     (then (valueOf s e) λ v.
     unless (leb (l .depth) 200) 13
     (gives (opening v))))

@@ -54,7 +54,8 @@ pub data Ends (d : List ℕ) : ℕ → Type 0 where
   here : {offset : ℕ} → offset ≡ terminator d → Ends d offset
   later : {offset : ℕ} (e : Element) → step d (cursor offset false) ≡ gives (yield e) → Ends d (past e) → Ends d offset
 
--- what the whole check is to find out: admitted, every iteration met ends at its own terminator, every reachable value can be read, none lies deeper than 200
+-- what the whole check is to find out: admitted, every iteration met ends at its own terminator, every reachable value can be read, none
+-- lies deeper than 200
 pub record Whole (s : List ℕ) : Type 0 where
   pub admits : admitted s ≡ gives (length s)
   pub ends : (d : List ℕ) (l : Level) → Comes s (start d l) → Ends d 4
@@ -63,7 +64,9 @@ pub record Whole (s : List ℕ) : Type 0 where
 
 -- and the strict one: every key of an array is good
 abbrev pub GoodKeys : List ℕ → Type 0
-GoodKeys s = (σ : Spot) (x : Reachable s σ) → σ .level .isArray ≡ true → goodArrayKey (σ .position) (bytes (σ .document) (x .element .key)) ≡ true
+GoodKeys s =
+    (σ : Spot) (x : Reachable s σ) → σ .level .isArray ≡ true
+    → goodArrayKey (σ .position) (bytes (σ .document) (x .element .key)) ≡ true
 
 -- the offset in the slice given of the tag byte at a spot
 abbrev pub placeOf : Spot → ℕ

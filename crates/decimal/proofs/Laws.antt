@@ -1,4 +1,4 @@
--- What follows from the definition of a number in decimal. Assumes nothing.
+-- How many digits a number has, and that they name it (document 01, "Writer and joining"). Assumes nothing.
 use Prim.Native.Nat.{ℕ, zero, suc, _+_, _-_, _*_, _/_, _%_, _^_, _≤_, _<_}
 use mathlib.Core.Path.{_≡_, refl, sym, ap, _∙_}
 use mathlib.Core.List.{List, [], _∷_, _++_}

@@ -1,4 +1,4 @@
--- What an answer that gives says of the tests before it. Assumes nothing.
+-- What an answer that gives says of the tests before it (document 01, "Numbers returned"). Assumes nothing.
 use Prim.Native.Nat.{ℕ, _-_}
 use mathlib.Core.Path.{_≡_, refl, ap, sym, _∙_}
 use mathlib.Core.List.{List}

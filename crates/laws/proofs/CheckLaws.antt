@@ -3,7 +3,7 @@
 use Prim.Native.Nat.{ℕ, zero, suc, _+_, _-_, _≤_, _<_}
 use mathlib.Core.Path.{_≡_, refl, sym, ap, _∙_}
 use mathlib.Core.List.{List}
-use mathlib.Core.Bool.{Bool, true, false, not, _&&_, _||_}
+use mathlib.Core.Bool.{Bool, true, false}
 use native.Mathlib.Omega.{arith}
 use lib.ListN.{length}
 use lib.Dec.{leb}
@@ -12,16 +12,11 @@ use Rattle.bson.specs.Answer.{Answer, gives, refuses, then}
 use Rattle.bson.specs.Bytes.{bytes}
 use Rattle.bson.specs.Step.{Cursor, cursor, Element, past, yield, end, step, Iteration, ended, broken, more, onward, iterate}
 use Rattle.bson.specs.Value.{Value, valueOf}
-use Rattle.bson.specs.ArrayKey.{goodArrayKey}
 use Rattle.bson.specs.Level.{Opening, closed, opens, opening, Level, deeper}
-use Rattle.bson.specs.Check.{Walk, visit, inside, opened, along, walkFor, walk}
+use Rattle.bson.specs.Check.{Walk, keyPasses, visit, inside, opened, along, walkFor, walk}
 use Rattle.laws.proofs.AnswerLaws.{never, gives-injective, unless-gives, then-gives, then-same, at-gives}
 use Rattle.laws.proofs.StepLaws.{Yields, iterate-eq, Each, iterate-each}
 use Rattle.laws.proofs.OpenLaws.{value-opens, opens-shorter}
-
--- the test of a key between step and read
-abbrev pub keyPasses : Bool → Level → ℕ → List ℕ → Bool
-keyPasses strict l position key = not (strict && l .isArray) || goodArrayKey position key
 
 module _ (strict : Bool) (s : List ℕ) (l : Level) (position : ℕ) (e : Element) where
   -- what a visit that gives says: the key passed, the value reads, and it is not too deep

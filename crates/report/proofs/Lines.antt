@@ -1,4 +1,4 @@
--- The lines of the report, as the code makes them piece by piece. Assumes nothing.
+-- The lines of the report, as the code makes them piece by piece (document 01, "Bytes to try"). Assumes nothing.
 use Prim.Native.Nat.{ℕ, _+_, _/_, _%_}
 use mathlib.Core.Path.{_≡_}
 use mathlib.Core.List.{List, [], _∷_}

@@ -11,13 +11,13 @@ use Rattle.bson.specs.Bytes.{bytes}
 use Rattle.bson.specs.Step.{admitted, cursor, Element, past, Step, yield, end, step}
 use Rattle.bson.specs.Value.{Value, valueOf}
 use Rattle.bson.specs.Level.{Opening, closed, opens, opening, outermost}
-use Rattle.bson.specs.Check.{check}
+use Rattle.bson.specs.Check.{keyPasses, check}
 use Rattle.bson.specs.Reach.{Spot, start, behind, within, YieldsAt, Comes, first, next, into, Reachable, Ends, here, later, Whole, GoodKeys}
 use Rattle.laws.proofs.AnswerLaws.{never}
 use Rattle.laws.proofs.Common.{split}
 use Rattle.laws.proofs.StepLaws.{step-admits, step-yields}
 use Rattle.laws.proofs.AdvanceLaws.{step-ends, ended-at}
-use Rattle.laws.proofs.CheckLaws.{keyPasses, walk-eq}
+use Rattle.laws.proofs.CheckLaws.{walk-eq}
 use Rattle.theorems.proofs.Spots.{walkAt, left, Inner, plain, deep, Opened, Walked, ended, more, walked-says, walked-gives}
 use Rattle.theorems.proofs.Spots.{read-yielded, read-says, opens-deeper, one-element, Onward, accepted-onward, comes-accepted}
 

@@ -5,8 +5,7 @@ ghost use mathlib.Core.Bool.{true, false};
 ghost use lib.ListN.{length};
 ghost use Rattle.bson.specs.Bytes.{bytes};
 ghost use Rattle.bson.specs.Step.{cursor};
-ghost use Rattle.bson.specs.Check.{visit as visitOf, opened, walk, check as checkOf};
-ghost use Rattle.laws.proofs.CheckLaws.{keyPasses};
+ghost use Rattle.bson.specs.Check.{keyPasses, visit as visitOf, opened, walk, check as checkOf};
 ghost use Rattle.laws.proofs.StepLaws.{Yields};
 ghost use Rattle.part.specs.Said as onPaper;
 ghost use Rattle.iter.specs.Said.{saidElement};
@@ -49,7 +48,8 @@ fn key_passes(s: &[u8], strict: bool, level: Level, key: Part) -> bool
 
 // The key (19), the reading, the depth (13), in this order.
 fn visit(s: &[u8], strict: bool, level: Level, element: Element) -> Visited
-    ensures { λ r. ⌜ ((position : ℕ) → saidVisited (level .base + element .place) r ≡ visitOf strict (now (s .entry)) (saidLevel level) position (saidElement element)) ⌝ }
+    ensures { λ r. ⌜ ((position : ℕ) → saidVisited (level .base + element .place) r
+        ≡ visitOf strict (now (s .entry)) (saidLevel level) position (saidElement element)) ⌝ }
 {
     if key_passes(s, strict, level, element.key) {
         return match reading::value_of(s, element) {
@@ -107,7 +107,8 @@ fn walk_document(s: &[u8], strict: bool, level: Level) -> Verdict
 // Opens a value that a step yielded: visits it, and walks the document inside it, if there is one.
 fn open_value(s: &[u8], strict: bool, level: Level, element: Element) -> Verdict
     requires { ⌜ (level .base + length (now s) < 2 ^ 63) × Yields (now s) (cursor (element .place) false) (saidElement element) ⌝ }
-    ensures { λ r. ⌜ ((position : ℕ) → said r ≡ opened strict (walk strict) (now (s .entry)) (saidLevel level) position (saidElement element)) ⌝ }
+    ensures { λ r. ⌜ ((position : ℕ) → said r
+        ≡ opened strict (walk strict) (now (s .entry)) (saidLevel level) position (saidElement element)) ⌝ }
 {
     match visit(s, strict, level, element) {
         Visited::Refused(number) => Verdict::Refused {
