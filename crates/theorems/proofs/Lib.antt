@@ -4,3 +4,4 @@ pub mod Count
 pub mod First
 pub mod Passed
 pub mod Typed
+pub mod Demand3
