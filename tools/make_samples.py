@@ -4,7 +4,7 @@ samples/NAME.txt. samples/beacon.bson comes from tools/make_beacon.py.
 
 usage: tools/make_samples.py                  writes the files
        tools/make_samples.py --check          the files are what the rules say
-       tools/make_samples.py --large FOLDER   writes inputs about 65,535 bytes long, which are not kept, and what is printed of them
+       tools/make_samples.py --many FOLDER    writes an input of as many elements as there can be and what is printed of it, too long to keep
 """
 import os
 import sys
@@ -44,6 +44,11 @@ def to_try(row):
     return bytes.fromhex(TRY.split("\n")[row - 1].split(" = ")[0])
 
 
+def one_value(size):
+    """A document of so many bytes with one binary in it."""
+    return doc(element(0x05, "", le(size - 12) + b"\0" + b"\xff" * (size - 12)))
+
+
 def samples():
     note = element(0x02, "note", text("ok"))
     return {
@@ -56,19 +61,17 @@ def samples():
         "tags": doc(*(element(tag, key, value) for key in "ab" for tag, value in SAMPLED)),
         # damage behind two elements, and in the second of three, which is yielded all the same
         "unframed": doc(BATTERY, note, element(0x14, "x"), BATTERY),
-        "unread": doc(BATTERY, element(0x08, "x", b"\2"), note),
+        "unreadable": doc(BATTERY, element(0x08, "x", b"\2"), note),
         "deep": nested(202),
+        # as long as is taken, and one byte longer
+        "most": one_value(LIMIT),
+        "over": one_value(LIMIT + 1),
     }
 
 
-def one_value(size):
-    """A document of so many bytes with one binary in it."""
-    return doc(element(0x05, "", le(size - 12) + b"\0" + b"\xff" * (size - 12)))
-
-
-def large():
-    """Documents as long as are taken, of one value and of as many as there can be; and one byte longer."""
-    return {"most": one_value(LIMIT), "many": doc(*[element(NULL, "")] * ((LIMIT - 5) // 2)), "over": one_value(LIMIT + 1)}
+def many():
+    """As many elements as a document can have."""
+    return {"many": doc(*[element(NULL, "")] * ((LIMIT - 5) // 2))}
 
 
 def files(folder, inputs):
@@ -87,8 +90,8 @@ def is_on_disk(path, data):
 
 
 def main():
-    if sys.argv[1:2] == ["--large"]:
-        for path, data in files(sys.argv[2], large()):
+    if sys.argv[1:2] == ["--many"]:
+        for path, data in files(sys.argv[2], many()):
             write(path, data)
         return
     made = dict(files(os.path.join(ROOT, "samples"), samples()))
