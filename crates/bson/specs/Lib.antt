@@ -13,6 +13,9 @@ pub mod Check
 pub mod Reach
 pub mod Decimal
 pub mod Output
+pub mod Grammar
+pub mod Meaning
+pub mod Writer
 pub mod Report
 pub mod Vectors
 pub mod Decided

@@ -14,17 +14,21 @@ use Rattle.bson.specs.Step.{admitted, cursor, Element, step, yielded, ha
 use Tags.{ElementType, Boolean, Int32, Double, Int64, DateTime, Timestamp, ObjectId, Decimal128, Null, Undefined, MinKey, MaxKey}
 use Tags.{String, JavaScriptCode, Symbol, DbPointer, EmbeddedDocument, Array, Binary, RegularExpression, JavaScriptCodeWithScope, typeOf}
 
--- a value that holds no other: numbers as numbers, a double by its bits, bytes as parts of the slice
-pub data Leaf : Type 0 where
-  boolean : Bool → Leaf
-  int32 int64 dateTime : ℤ → Leaf
-  double : (bits : ℕ) → Leaf
-  timestamp : (increment seconds : ℕ) → Leaf
-  objectId decimal128 string code symbol : Part → Leaf
-  null undefined minKey maxKey : Leaf
-  dbPointer : (namespace id : Part) → Leaf
-  binary : (subtype : ℕ) (contents : Part) → Leaf
-  regex : (pattern options : Part) → Leaf
+-- a value that holds no other: numbers as numbers, a double by its bits, and B for bytes
+pub data Scalar (B : Type 0) : Type 0 where
+  boolean : Bool → Scalar B
+  int32 int64 dateTime : ℤ → Scalar B
+  double : (bits : ℕ) → Scalar B
+  timestamp : (increment seconds : ℕ) → Scalar B
+  objectId decimal128 string code symbol : B → Scalar B
+  null undefined minKey maxKey : Scalar B
+  dbPointer : (namespace id : B) → Scalar B
+  binary : (subtype : ℕ) (contents : B) → Scalar B
+  regex : (pattern options : B) → Scalar B
+
+-- as it is read: bytes as parts of the slice
+abbrev pub Leaf : Type 0
+Leaf = Scalar Part
 
 pub data Value : Type 0 where
   leaf : Leaf → Value

@@ -12,3 +12,9 @@ pub mod StepLaws
 pub mod AdvanceLaws
 pub mod TagLaws
 pub mod Utf8Laws
+pub mod OutputLaws
+pub mod DecimalLaws
+pub mod GrammarLaws
+pub mod WriterWords
+pub mod WriterLaws
+pub mod WriterRefusals

@@ -13,7 +13,7 @@ use Rattle.bson.specs.Step.{cursor, Element, past, yield, end, step, Iteration,
 use Rattle.bson.specs.Check.{check}
 use Rattle.bson.specs.Report.{header, elementLine, verdictLine, elementLines, reportLines}
 use Rattle.laws.proofs.StepLaws.{iterate-eq}
-use Rattle.output.proofs.Laws.{texts-append, texts-within}
+use Rattle.laws.proofs.OutputLaws.{texts-append, texts-within}
 
 -- the lines from an offset on
 abbrev pub lines-from : Output → List ℕ → ℕ → Output

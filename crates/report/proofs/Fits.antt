@@ -17,8 +17,8 @@ use Rattle.bson.specs.Check.{check}
 use Rattle.bson.specs.Report.{header, elementLine, verdictLine, elementLines, reportLines, report}
 use Rattle.laws.proofs.Common.{split}
 use Rattle.laws.proofs.StepLaws.{Yields, Each, iterate-each}
-use Rattle.output.proofs.Laws.{texts-fit}
-use Rattle.decimal.proofs.Laws.{width-within, width-small}
+use Rattle.laws.proofs.OutputLaws.{texts-fit}
+use Rattle.laws.proofs.DecimalLaws.{width-within, width-small}
 use Rattle.report.proofs.Lines.{element-size, accepted-size, refused-size}
 
 -- the line of a verdict whose numbers the machine holds

@@ -11,8 +11,8 @@ use Rattle.bson.specs.Decimal.{width, decimal}
 use Rattle.bson.specs.Output.{Output, output, putText, putTexts}
 use Rattle.bson.specs.Step.{Element}
 use Rattle.bson.specs.Report.{sp, nl, hexDigit, hexByte, elementLine, verdictLine}
-use Rattle.output.proofs.Laws.{line-put}
-use Rattle.decimal.proofs.Laws.{length-decimal}
+use Rattle.laws.proofs.OutputLaws.{line-put}
+use Rattle.laws.proofs.DecimalLaws.{length-decimal}
 
 pub element-size : (e : Element) (v w : ℕ) → v ≡ width (e .place) → w ≡ width (e .value .size) → v + w + 5 ≡ length (elementLine e)
 unfolding elementLine hexByte

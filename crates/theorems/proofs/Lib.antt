@@ -5,3 +5,14 @@ pub mod First
 pub mod Passed
 pub mod Typed
 pub mod Demand3
+pub mod Items
+pub mod Steps
+pub mod Means
+pub mod Passes
+pub mod OneMeaning
+pub mod Holds
+pub mod Shown
+pub mod Trace
+pub mod Taken
+pub mod ReadBack
+pub mod Builds

@@ -115,7 +115,7 @@ opens-deeper σ e v isArray levels p y x o =
 pub one-element : (x : Answer Step) (e f : Element) → x ≡ gives (yield e) → x ≡ gives (yield f) → e ≡ f
 one-element x e f p q = cc
 
-end-no-element : (x : Answer Step) (e : Element) → x ≡ gives end → x ≡ gives (yield e) → ⊥
+pub end-no-element : (x : Answer Step) (e : Element) → x ≡ gives end → x ≡ gives (yield e) → ⊥
 end-no-element x e p q = let z : _≡_ {A = ℕ} 0 1 = cc in omega arith
 
 -- what an accepted walk says where the step yields an element

@@ -8,8 +8,8 @@ use borrow.Author.Needs.{needs}
 use borrow.Author.Tests.{leb-true}
 use Rattle.bson.specs.Decimal.{digits, width, decimal}
 use Rattle.bson.specs.Output.{put}
-use Rattle.output.proofs.Laws.{text-put, text-left}
-use Rattle.decimal.proofs.Laws.{length-decimal}
+use Rattle.laws.proofs.OutputLaws.{text-put, text-left}
+use Rattle.laws.proofs.DecimalLaws.{length-decimal}
 use Rattle.decimal.proofs.put_decimal.Statement.{statement}
 use Rattle.decimal.proofs.put_decimal.Tie as tie
 

@@ -6,8 +6,8 @@ use lib.ListN.{length, length-set}
 use borrow.Author.Needs.{needs}
 use Rattle.bson.specs.Decimal.{digits}
 use Rattle.bson.specs.Output.{put}
-use Rattle.output.proofs.Laws.{put-nil}
-use Rattle.decimal.proofs.Laws.{digit-turn}
+use Rattle.laws.proofs.OutputLaws.{put-nil}
+use Rattle.laws.proofs.DecimalLaws.{digit-turn}
 use Rattle.decimal.proofs.put_digits.Statement.{statement}
 use Rattle.decimal.proofs.put_digits.Tie as tie
 

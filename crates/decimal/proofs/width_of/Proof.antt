@@ -3,7 +3,7 @@ use Prim.Native.Nat.{_+_}
 use mathlib.Core.Path.{_≡_, refl}
 use native.Mathlib.Omega.{arith}
 use Rattle.bson.specs.Decimal.{width}
-use Rattle.decimal.proofs.Laws.{tenth, width-digit, width-eq, width-positive, width-small}
+use Rattle.laws.proofs.DecimalLaws.{tenth, width-digit, width-eq, width-positive, width-small}
 use Rattle.decimal.proofs.width_of.Statement.{statement}
 use Rattle.decimal.proofs.width_of.Tie as tie
 

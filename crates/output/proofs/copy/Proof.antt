@@ -7,7 +7,7 @@ use native.Mathlib.Omega.{arith}
 use lib.ListN.{length, getD, set, length-set}
 use lib.Seq.{paste, paste-zero, paste-suc}
 use borrow.Author.Needs.{needs}
-use Rattle.output.proofs.Laws.{put-paste}
+use Rattle.laws.proofs.OutputLaws.{put-paste}
 use Rattle.output.proofs.copy.Statement.{statement}
 use Rattle.output.proofs.copy.Tie as tie
 

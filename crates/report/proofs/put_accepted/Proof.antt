@@ -1,6 +1,6 @@
 -- `report::put_accepted` meets its contract: word, count and newline where the line fits, else nothing. Assumes nothing.
 use mathlib.Core.Path.{sym, _∙_}
-use Rattle.output.proofs.Laws.{text-left, then-put}
+use Rattle.laws.proofs.OutputLaws.{text-left, then-put}
 use Rattle.report.proofs.Lines.{accepted-size, accepted-put}
 use borrow.Author.Needs.{needs}
 use Rattle.report.proofs.put_accepted.Statement.{statement}

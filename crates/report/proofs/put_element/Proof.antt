@@ -1,6 +1,6 @@
 -- `report::put_element` meets its contract: place, tag, size and newline where the line fits, else nothing. Assumes nothing.
 use mathlib.Core.Path.{sym, _∙_}
-use Rattle.output.proofs.Laws.{text-left, then-put}
+use Rattle.laws.proofs.OutputLaws.{text-left, then-put}
 use Rattle.report.proofs.Lines.{element-size, element-put}
 use borrow.Author.Needs.{needs}
 use Rattle.report.proofs.put_element.Statement.{statement}

@@ -5,7 +5,7 @@ use Rattle.bson.specs.Report.{header}
 use native.Mathlib.Omega.{arith}
 use Rattle.report.proofs.Fits.{report-printed}
 use Rattle.report.proofs.Along.{lines-from, report-put, report-long, report-within}
-use Rattle.output.proofs.Laws.{then-put}
+use Rattle.laws.proofs.OutputLaws.{then-put}
 use borrow.Author.Needs.{needs}
 use Rattle.report.proofs.put_report.Statement.{statement}
 use Rattle.report.proofs.put_report.Tie as tie

@@ -1,17 +1,22 @@
--- How many digits a number has, and that they name it (document 01, "Writer and joining"). Assumes nothing.
+-- How many digits a number has, that they name it, and that they are a valid key (document 01, "Writer and joining": keys "0, 1, 2 on in
+-- decimal"). Assumes nothing.
 use Prim.Native.Nat.{ℕ, zero, suc, _+_, _-_, _*_, _/_, _%_, _^_, _≤_, _<_}
 use mathlib.Core.Path.{_≡_, refl, sym, ap, _∙_}
 use mathlib.Core.List.{List, [], _∷_, _++_}
+use mathlib.Core.Bool.{true}
 use native.Mathlib.Nat.{add-comm, div-lt-self, div-lt-iff-lt-mul, pow-suc}
 use native.Mathlib.Numerals.{add-one, sub-one}
 use native.Mathlib.Omega.{arith}
 use lib.Dec.{ltb}
 use lib.ListN.{length, set, length-append}
-use borrow.Author.Tests.{lt-ltb, le-ltb, ltb-true, ltb-false}
+use borrow.Author.Tests.{lt-ltb, le-ltb, ltb-true, ltb-false, eq-eqb, ne-eqb}
+use Rattle.bson.specs.Utf8.{Left, left, read, whole, utf8}
+use Rattle.bson.specs.Cstring.{firstZero, validCstr}
 use Rattle.bson.specs.Decimal.{digits, widthFor, width, decimal}
 use Rattle.bson.specs.Output.{put}
 use Rattle.laws.proofs.Common.{split}
-use Rattle.output.proofs.Laws.{put-back}
+use Rattle.laws.proofs.OutputLaws.{put-back}
+use Rattle.laws.proofs.Utf8Laws.{next-ascii}
 
 pub tenth : (n : ℕ) → 10 ≤ n → n / 10 < n
 tenth n h = div-lt-self (omega arith) (omega arith)
@@ -108,3 +113,35 @@ width-holds (suc k) n h =
 pub decimal-named : (n : ℕ) → named (decimal n) ≡ n
 unfolding decimal width
 decimal-named n = digits-named (width n) n (width-holds (suc n) n (omega arith))
+
+-- the digits are a valid key
+
+-- ASCII bytes and no zero
+abbrev Plain : List ℕ → Type 0
+Plain [] = Unit
+Plain (b ∷ s) = (0 < b) × ((b < 128) × Plain s)
+
+plain-append : (s t : List ℕ) → Plain s → Plain t → Plain (s ++ t)
+plain-append [] t p q = q
+plain-append (b ∷ s) t p q = (p .0, (p .1 .0, plain-append s t (p .1 .1) q))
+
+plain-whole : (s : List ℕ) → Plain s → firstZero s ≡ length s
+plain-whole [] p = refl
+plain-whole (b ∷ s) p = let a = p .0 in rw (ne-eqb b 0 (λ e. omega arith)) (ap suc (plain-whole s (p .1 .1)))
+
+plain-read : (s : List ℕ) → Plain s → read (left []) s ≡ left []
+plain-read [] p = refl
+plain-read (b ∷ s) p = ap (λ (l : Left). read l s) (next-ascii b (p .1 .0)) ∙ plain-read s (p .1 .1)
+
+plain-valid : (s : List ℕ) → Plain s → validCstr s ≡ true
+unfolding validCstr utf8
+plain-valid s p = rw (eq-eqb _ _ (plain-whole s p)) (ap whole (plain-read s p))
+
+digits-plain : (k n : ℕ) → Plain (digits k n)
+unfolding digits
+digits-plain zero n = tt
+digits-plain (suc k) n = plain-append (digits k (n / 10)) ((48 + n % 10) ∷ []) (digits-plain k (n / 10)) (omega arith, (omega arith, tt))
+
+pub decimal-valid : (n : ℕ) → validCstr (decimal n) ≡ true
+unfolding decimal
+decimal-valid n = plain-valid (digits (width n) n) (digits-plain (width n) n)

@@ -8,9 +8,10 @@ use native.Mathlib.Nat.{add-assoc, add-zero}
 use native.Mathlib.Omega.{arith}
 use lib.Dec.{leb}
 use lib.ListN.{length, take, drop, set, length-append, length-take, length-drop, take-append-drop}
-use lib.Seq.{take-at, drop-at, set-split, drop-drop, length-take-le, take-set-le, drop-append-add, take-length, paste}
+use lib.Seq.{take-at, drop-at, set-split, drop-drop, length-take-le, take-set-le, take-append-le, take-append-seam, drop-append-le, drop-append-add}
+use lib.Seq.{take-length, paste}
 use borrow.Author.Tests.{le-leb, leb-true}
 use Rattle.laws.proofs.Common.{split}
 use Rattle.bson.specs.Output.{Output, output, put, putText, putTexts, joined}
 
 pub length-put : (buffer : List ℕ) (at : ℕ) (s : List ℕ) → at + length s ≤ length buffer → length (put buffer at s) ≡ length buffer
@@ -38,7 +39,14 @@ put-back buffer at s d h =
     (length-take-le (at + length s) buffer (omega arith)))
     ∙ rw (e, append-assoc))
 
-module _ (buffer : List ℕ) (at : ℕ) (s t : List ℕ) (fits : at + (length s + length t) ≤ length buffer) where
+-- what stands in front of a run, up to its end, and behind it
+
+further : (m n : ℕ) (a b : List ℕ) → m ≤ n → drop m a ≡ drop m b → drop n a ≡ drop n b
+further m n a b h e =
+    let k : m + (n - m) ≡ n = omega arith in
+    ap (λ (i : ℕ). drop i a) (sym k) ∙ sym (drop-drop (n - m) m a) ∙ ap (drop (n - m)) e ∙ drop-drop (n - m) m b ∙ ap (λ (i : ℕ). drop i b) k
+
+module _ (buffer : List ℕ) (at : ℕ) (s : List ℕ) (fits : at + length s ≤ length buffer) where
   front-length : length (take at buffer ++ s) ≡ at + length s
   front-length = simp (length-append, length-take) (omega arith)
 
@@ -46,34 +54,44 @@ module _ (buffer : List ℕ) (at : ℕ) (s t : List ℕ) (fits : at + (length s 
   unfolding put
   front-put = sym (append-assoc (take at buffer) s (drop (at + length s) buffer))
 
-  drop-put : drop (at + length s + length t) (put buffer at s) ≡ drop (at + length s + length t) buffer
-  drop-put =
-      ap (drop (at + length s + length t)) front-put
-      ∙ ap (λ (k : ℕ). drop (k + length t) ((take at buffer ++ s) ++ drop (at + length s) buffer)) (sym front-length)
-      ∙ drop-append-add (take at buffer ++ s) (drop (at + length s) buffer) (length t)
-      ∙ drop-drop (length t) (at + length s) buffer
-
-  take-put : take (at + length s) (put buffer at s) ≡ take at buffer ++ s
+  pub take-put : take (at + length s) (put buffer at s) ≡ take at buffer ++ s
   take-put = ap (take (at + length s)) front-put ∙ take-at (take at buffer ++ s) (drop (at + length s) buffer) (at + length s) front-length
 
-  outer : put (put buffer at s) (at + length s) t
-      ≡ take (at + length s) (put buffer at s) ++ (t ++ drop (at + length s + length t) (put buffer at s))
-  unfolding put
-  outer = refl
+  -- "a call that writes keeps all bytes behind its output"
+  pub drop-put : (n : ℕ) → at + length s ≤ n → drop n (put buffer at s) ≡ drop n buffer
+  drop-put n h =
+      further (at + length s) n (put buffer at s) buffer h
+      (ap (drop (at + length s)) front-put ∙ drop-at (take at buffer ++ s) (drop (at + length s) buffer) (at + length s) front-length)
 
-  inner : take at buffer ++ ((s ++ t) ++ drop (at + length s + length t) buffer) ≡ put buffer at (s ++ t)
-  unfolding put
-  inner = simp (length-append, add-assoc)
+-- one run after the other is one run
+pub put-put : (buffer : List ℕ) (at : ℕ) (s t : List ℕ) → at + (length s + length t) ≤ length buffer
+    → put (put buffer at s) (at + length s) t ≡ put buffer at (s ++ t)
+unfolding put
+put-put buffer at s t fits =
+    let before = take-put buffer at s (omega arith) in
+    let after = drop-put buffer at s (omega arith) (at + length s + length t) (omega arith) in
+    rw (before, after) (simp (length-append, append-assoc, add-assoc))
 
-  -- one run after the other is one run
-  pub put-put : put (put buffer at s) (at + length s) t ≡ put buffer at (s ++ t)
-  put-put =
-      outer
-      ∙ ap (λ (l : List ℕ). l ++ (t ++ drop (at + length s + length t) (put buffer at s))) take-put
-      ∙ ap (λ (l : List ℕ). (take at buffer ++ s) ++ (t ++ l)) drop-put
-      ∙ append-assoc (take at buffer) s (t ++ drop (at + length s + length t) buffer)
-      ∙ ap (λ (l : List ℕ). take at buffer ++ l) (sym (append-assoc s t (drop (at + length s + length t) buffer)))
-      ∙ inner
+-- in the first of two lists
+put-front : (a b : List ℕ) (at : ℕ) (s : List ℕ) → at + length s ≤ length a → put (a ++ b) at s ≡ put a at s ++ b
+unfolding put
+put-front a b at s h = rw (take-append-le at a b (omega arith), drop-append-le (at + length s) a b h) (simp (append-assoc))
+
+-- a run inside the bytes in front
+pub take-put-in : (buffer : List ℕ) (n at : ℕ) (s : List ℕ) → at + length s ≤ n → n ≤ length buffer
+    → take n (put buffer at s) ≡ put (take n buffer) at s
+take-put-in buffer n at s h g =
+    let l : length (take n buffer) ≡ n = length-take-le n buffer g in
+    ap (λ (b : List ℕ). take n (put b at s)) (sym (take-append-drop n buffer))
+    ∙ ap (take n) (put-front (take n buffer) (drop n buffer) at s (omega arith))
+    ∙ take-at (put (take n buffer) at s) (drop n buffer) n (length-put (take n buffer) at s (omega arith) ∙ l)
+
+-- a run over another as long
+pub put-over : (a b c s : List ℕ) → length b ≡ length s → put (a ++ (b ++ c)) (length a) s ≡ a ++ (s ++ c)
+unfolding put
+put-over a b c s h =
+    let d : drop (length a + length s) (a ++ (b ++ c)) ≡ c = drop-append-add a (b ++ c) (length s) ∙ drop-at b c (length s) h in
+    rw (d, take-append-seam)
 
 -- a text that fits, and one that does not
 
@@ -125,21 +143,14 @@ pub texts-within : (n : ℕ) (o : Output) (texts : List (List ℕ)) → (o .used
 texts-within n o [] h = h
 texts-within n o (t ∷ ts) h = texts-within n (putText o t) ts (text-within n o t h)
 
--- "a call that writes keeps all bytes behind its output"
-
-further : (m n : ℕ) (a b : List ℕ) → m ≤ n → drop m a ≡ drop m b → drop n a ≡ drop n b
-further m n a b h e =
-    let k : m + (n - m) ≡ n = omega arith in
-    ap (λ (i : ℕ). drop i a) (sym k) ∙ sym (drop-drop (n - m) m a) ∙ ap (drop (n - m)) e ∙ drop-drop (n - m) m b ∙ ap (λ (i : ℕ). drop i b) k
-
--- those behind a text, and that the used bytes never become fewer
+-- the bytes behind a text, and that the used bytes never become fewer
 text-behind : (o : Output) (text : List ℕ)
     → (drop (putText o text .used) (putText o text .buffer) ≡ drop (putText o text .used) (o .buffer)) × (o .used ≤ putText o text .used)
 text-behind o text =
     split (leb (o .used + length text) (length (o .buffer)))
     (λ t. let f = leb-true (o .used + length text) (length (o .buffer)) t in
     rw (text-fits (o .buffer) (o .used) text f)
-    (rw add-zero at (drop-put (o .buffer) (o .used) text [] (omega arith)), omega arith))
+    (drop-put (o .buffer) (o .used) text f (o .used + length text) (omega arith), omega arith))
     (λ t. rw (← text-left (o .buffer) (o .used) text _ refl t) (refl, omega arith))
 
 pub texts-behind : (o : Output) (texts : List (List ℕ))

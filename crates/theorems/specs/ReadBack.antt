@@ -1,0 +1,129 @@
+-- What the writer closes reads back as exactly the elements given, and every tree can be written (demand 2; document 01, "Writer and joining").
+use Prim.Native.Nat.{ℕ, suc, _<_, _≤_}
+use mathlib.Core.Path.{_≡_}
+use mathlib.Core.List.{List, [], _∷_}
+use mathlib.Core.Bool.{false, cond}
+use lib.ListN.{length, take}
+use Rattle.bson.specs.Answer.{Answer, gives, refuses}
+use Rattle.bson.specs.Check.{check}
+use Rattle.bson.specs.Decimal.{decimal}
+use Rattle.bson.specs.Grammar.{Item, Nest, document, isArray, Elements, none, leaf, nest, treeBytes, size, Shallow, Fitting, Good, Numbered}
+use Rattle.bson.specs.Meaning.{Means}
+use Rattle.bson.specs.Writer.{fresh, used, depth, Desk, desk, Call, openTop, close, append, openNest, answer}
+
+-- a document that is open: its nest and its key in the one around it, and the elements in it so far
+pub record Open : Type 0 where
+  pub nest : Nest
+  pub key : List ℕ
+  pub inside : Elements
+
+abbrev pub opened : Nest → List ℕ → Elements → Open
+opened n key inside = record { nest = n; key = key; inside = inside }
+
+-- the tree of the elements given: not begun, with its open documents, innermost first, or closed
+pub data Building : Type 0 where
+  unopened : Building
+  building : (innermost : Open) (around : List Open) → Building
+  built : Elements → Building
+
+-- an element behind others
+abbrev pub behind : Elements → Elements → Elements
+behind none t = t
+behind (leaf key v rest) t = leaf key v (behind rest t)
+behind (nest n key inner rest) t = nest n key inner (behind rest t)
+
+abbrev pub count : Elements → ℕ
+count none = 0
+count (leaf key v rest) = suc (count rest)
+count (nest n key inner rest) = suc (count rest)
+
+abbrev pub with : Open → Elements → Open
+with o t = opened (o .nest) (o .key) (behind (o .inside) t)
+
+-- "inside an array it makes the keys itself, 0, 1, 2 on in decimal"
+abbrev pub keyFor : Open → List ℕ → List ℕ
+keyFor o key = cond (isArray (o .nest)) (decimal (count (o .inside))) key
+
+-- what an accepted call makes of the tree
+abbrev pub after : Call → Building → Building
+after openTop unopened = building (opened document [] none) []
+after (append key v) (building o around) = building (with o (leaf (keyFor o key) v none)) around
+after (openNest n key) (building o around) = building (opened n (keyFor o key) none) (o ∷ around)
+after close (building o []) = built (o .inside)
+after close (building o (p ∷ around)) = building (with p (nest (o .nest) (o .key) (o .inside) none)) around
+after openTop (building o around) = building o around
+after c (built t) = built t
+after (append key v) unopened = unopened
+after (openNest n key) unopened = unopened
+after close unopened = unopened
+
+-- "each call given the buffer and the state that the one before left"
+pub record Session : Type 0 where
+  pub left : Desk
+  pub tree : Building
+
+-- a refused call leaves all as it was
+abbrev pub next : Call → Session → Answer Desk → Session
+next c s (gives d) = record { left = d; tree = after c (s .tree) }
+next c s (refuses n p) = s
+
+abbrev pub turn : Call → Session → Session
+turn c s = next c s (answer c (s .left))
+
+abbrev pub run : List Call → Session → Session
+run [] s = s
+run (c ∷ cs) s = run cs (turn c s)
+
+-- "begun fresh"
+abbrev pub begin : List ℕ → Session
+begin buffer = record { left = desk fresh buffer; tree = unopened }
+
+-- what a call is given fits its type
+abbrev pub Typed : List Call → Type 0
+Typed [] = Unit
+Typed (append key v ∷ cs) = Fitting v × Typed cs
+Typed (openTop ∷ cs) = Typed cs
+Typed (close ∷ cs) = Typed cs
+Typed (openNest n key ∷ cs) = Typed cs
+
+-- every call is answered 0
+abbrev pub Accepted : List Call → Session → Type 0
+Accepted [] s = Unit
+Accepted (c ∷ cs) s = ((d : Desk) × (answer c (s .left) ≡ gives d)) × Accepted cs (turn c s)
+
+-- the used bytes are the tree's bytes; these mean the tree, and pass the whole check with the number of its values
+pub record ReadsBack (d : Desk) (t : Elements) : Type 0 where
+  pub closed : depth (d .state) ≡ 0
+  pub bytes : take (used (d .state)) (d .buffer) ≡ treeBytes t
+  pub means : Means (treeBytes t) t
+  pub numbered : Numbered false 0 t
+  pub passes : check false (treeBytes t) ≡ gives (size t)
+
+-- how a session stands that began with a buffer: nothing is open before the top is opened, and after it is closed
+abbrev pub Stands : List ℕ → Desk → Building → Type 0
+Stands buffer d unopened = d ≡ desk fresh buffer
+Stands buffer d (building o around) = depth (d .state) ≡ suc (length around)
+Stands buffer d (built t) = ReadsBack d t
+
+-- "what the writer closes, begun fresh and each call given the buffer and the state that the one before left, reads back as exactly the elements given"
+abbrev pub WriterReadsBack : Type 0
+WriterReadsBack = (buffer : List ℕ) (calls : List Call) → Typed calls
+    → Stands buffer (run calls (begin buffer) .left) (run calls (begin buffer) .tree)
+
+-- a tree that the writer can build: its keys as the writer makes them, none deeper than 200, its bytes within the room
+pub record Writable (t : Elements) : Type 0 where
+  pub good : Good t
+  pub numbered : Numbered false 0 t
+  pub shallow : Shallow 0 t
+  pub fits : length (treeBytes t) ≤ 2147483647
+
+-- and by which calls, all answered 0, in a buffer of just its size
+pub record Builds (t : Elements) (buffer : List ℕ) : Type 0 where
+  pub calls : List Call
+  pub typed : Typed calls
+  pub accepted : Accepted calls (begin buffer)
+  pub finished : run calls (begin buffer) .tree ≡ built t
+  pub whole : run calls (begin buffer) .left .buffer ≡ treeBytes t
+
+abbrev pub WriterBuilds : Type 0
+WriterBuilds = (t : Elements) → Writable t → (buffer : List ℕ) → length buffer ≡ length (treeBytes t) → Builds t buffer
