@@ -1,10 +1,10 @@
--- `report::put_accepted` meets its contract: word, count and newline where the line fits, else nothing. Assumes nothing.
+-- `verdict_line::put_accepted` meets its contract: word, count and newline where the line fits, else nothing. Assumes nothing.
 use mathlib.Core.Path.{sym, _∙_}
 use Rattle.laws.proofs.OutputLaws.{text-left, then-put}
-use Rattle.report.proofs.Lines.{accepted-size, accepted-put}
+use Rattle.verdict_line.proofs.Lines.{accepted-size, accepted-put}
 use borrow.Author.Needs.{needs}
-use Rattle.report.proofs.put_accepted.Statement.{statement}
-use Rattle.report.proofs.put_accepted.Tie as tie
+use Rattle.verdict_line.proofs.put_accepted.Statement.{statement}
+use Rattle.verdict_line.proofs.put_accepted.Tie as tie
 
 width-of-requires : tie.Need-width-of-requires
 width-of-requires c κs = search needs

@@ -1,10 +1,10 @@
--- `report::put_refused` meets its contract: word, number, place and newline where the line fits, else nothing. Assumes nothing.
+-- `verdict_line::put_refused` meets its contract: word, number, place and newline where the line fits, else nothing. Assumes nothing.
 use mathlib.Core.Path.{sym, _∙_}
 use Rattle.laws.proofs.OutputLaws.{text-left, then-put}
-use Rattle.report.proofs.Lines.{refused-size, refused-put}
+use Rattle.verdict_line.proofs.Lines.{refused-size, refused-put}
 use borrow.Author.Needs.{needs}
-use Rattle.report.proofs.put_refused.Statement.{statement}
-use Rattle.report.proofs.put_refused.Tie as tie
+use Rattle.verdict_line.proofs.put_refused.Statement.{statement}
+use Rattle.verdict_line.proofs.put_refused.Tie as tie
 
 width-of-requires : tie.Need-width-of-requires
 width-of-requires c κs = search needs
