@@ -1,13 +1,10 @@
 -- What the cases of a value and of an answer say on paper, and what the inner functions answer.
 use Prim.Native.Nat.{ℕ, _+_}
-use mathlib.Core.List.{List}
 use mathlib.Core.Bool.{cond}
-use lib.Dec.{eqb, ltb}
+use lib.Dec.{eqb}
 use lib.IntN.{ℤ}
-use lib.ListN.{length, drop}
-use Rattle.bson.specs.Answer.{Answer, gives, refuses, then, unless}
+use Rattle.bson.specs.Answer.{Answer, gives, refuses, then}
 use Rattle.bson.specs.Bytes as paper
-use Rattle.bson.specs.Step.{admitted}
 use Rattle.bson.specs.Value.{Leaf, leaf, boolean, int32, int64, dateTime, double, timestamp, objectId, decimal128, string, code, symbol}
 use Rattle.bson.specs.Value.{null, undefined, minKey, maxKey, dbPointer, binary, regex, document, array, codeWithScope}
 use Rattle.bson.specs.Value as value
@@ -57,10 +54,3 @@ abbrev pub asRegex : ℕ → Answer (paper.Part × paper.Part) → Answer value.
 asRegex offset a =
     then a λ r.
     gives (leaf (regex (paper.part offset (r .0 .size)) (paper.part (offset + r .1 .offset) (r .1 .size))))
-
--- "scope start not before the end 12; scope admitted (1, 2, 3)"
-unfoldable pub scopeFrom : List ℕ → paper.Part → ℕ → paper.Part → Answer value.Value
-scopeFrom v c start p =
-    unless (ltb start (length v)) 12
-    (then (admitted (drop start v)) λ _.
-    gives (codeWithScope c (paper.trim start 0 p)))

@@ -1,17 +1,14 @@
 // What a framed value holds (document 01, "Values"; src/raw/value.rs of the Rust).
-ghost use Prim.Native.Nat.{_+_, _-_, _<_, _≤_};
+ghost use Prim.Native.Nat.{_+_, _<_, _≤_};
 ghost use mathlib.Core.Path.{_≡_};
-ghost use mathlib.Core.Bool.{_&&_};
-ghost use lib.Dec.{leb, eqb};
-ghost use lib.ListN.{length, getD, drop};
+ghost use lib.ListN.{length, getD};
 ghost use Rattle.bson.specs.Answer.{then};
-ghost use Rattle.bson.specs.Bytes.{le32, le64, i32, i64, bytes, trim as trimmed};
-ghost use Rattle.bson.specs.Utf8.{utf8};
+ghost use Rattle.bson.specs.Bytes.{le64, i32, i64, trim as trimmed};
 ghost use Rattle.bson.specs.Tags.{typeOf, DbPointer};
 ghost use Rattle.bson.specs.Framing.{inFront, patternOptions};
 ghost use Rattle.bson.specs.Value as paper;
 ghost use Rattle.part.specs.Said as onPaper;
-ghost use Rattle.value.specs.Said.{said, asLong, asText, asRegex, scopeFrom};
+ghost use Rattle.value.specs.Said.{said, asLong, asText, asRegex};
 use cstr::Length;
 use framing::PatternOptions;
 use num::Boolean;
@@ -19,7 +16,6 @@ use num::Double;
 use num::Int32;
 use num::Int64;
 use num::Timestamp;
-use num::Uint32;
 use part::Part;
 
 // A value of each type: numbers as numbers, a double by its bits, bytes as parts of the slice.
@@ -119,19 +115,13 @@ fn trim(part: Part, front: usize, back: usize) -> Part
     Part { offset, size }
 }
 
-fn is_text(s: &[u8], part: Part) -> bool
-    ensures { λ r. ⌜ r ≡ utf8 (bytes (now (s .entry)) (onPaper.said part)) ⌝ }
-{
-    utf8::is_utf8(part::bytes_of(s, part))
-}
-
 // A string, code or symbol, by its tag: 6 where it is not UTF-8.
 fn text(s: &[u8], tag: u8, framed: Part) -> Parsed
     requires { ⌜ framed .offset + framed .size ≤ length (now s) ⌝ }
     ensures { λ r. ⌜ said r ≡ paper.asLeaf (asText tag) (paper.text (now (s .entry)) (trimmed 4 1 (onPaper.said framed))) ⌝ }
 {
     let text = trim(framed, 4, 1);
-    if !is_text(s, text) {
+    if !inside::is_text(s, text) {
         return Parsed::Refused(6);
     }
     if tag == 0x0D {
@@ -149,7 +139,7 @@ fn db_pointer(s: &[u8], framed: Part) -> Parsed
     ensures { λ r. ⌜ said r ≡ paper.content (now (s .entry)) (onPaper.said framed) DbPointer ⌝ }
 {
     let namespace = trim(framed, 4, 13);
-    if !is_text(s, namespace) {
+    if !inside::is_text(s, namespace) {
         return Parsed::Refused(6);
     }
     let mut front = 0;
@@ -166,19 +156,6 @@ fn byte_at(v: &[u8], i: usize) -> u8
     if i < v.len() { v[i] } else { 0 }
 }
 
-// Whether data of subtype 2 begins with a length equal to the bytes behind it.
-fn is_old_binary(v: &[u8]) -> bool
-    ensures { λ r. ⌜ r ≡ (leb 9 (length (now (v .entry))) && eqb (le32 (drop 5 (now (v .entry)))) (length (now (v .entry)) - 9)) ⌝ }
-{
-    if v.len() < 9 {
-        return false;
-    }
-    match num::u32_from_slice(&v[5..]) {
-        Uint32::Refused(_) => false,
-        Uint32::Is(n) => (n as usize) == v.len() - 9,
-    }
-}
-
 // Binary data, behind its length and subtype; under subtype 2 behind a second length, else 12.
 fn binary(v: &[u8], framed: Part) -> Parsed
     requires { ⌜ framed .offset < 9223372036854775808 ⌝ }
@@ -189,7 +166,7 @@ fn binary(v: &[u8], framed: Part) -> Parsed
         let data = trim(framed, 5, 0);
         return Parsed::Is(Value::Binary { subtype, data });
     }
-    if is_old_binary(v) {
+    if inside::is_old_binary(v) {
         let data = trim(framed, 9, 0);
         return Parsed::Is(Value::Binary { subtype, data });
     }
@@ -217,43 +194,21 @@ fn regular_expression(v: &[u8], offset: usize) -> Parsed
     }
 }
 
-// The document behind the code, from a start on to the end of the value.
-fn scope(v: &[u8], code: Part, start: usize, framed: Part) -> Parsed
-    requires { ⌜ framed .offset + start < 9223372036854775808 ⌝ }
-    ensures { λ r. ⌜ said r ≡ scopeFrom (now (v .entry)) (onPaper.said code) start (onPaper.said framed) ⌝ }
-{
-    if v.len() <= start {
-        return Parsed::Refused(12);
-    }
-    match raw::admit(&v[start..]) {
-        Length::Refused(number) => Parsed::Refused(number),
-        Length::Is(_) => {
-            let scope = trim(framed, start, 0);
-            Parsed::Is(Value::JavaScriptCodeWithScope { code, scope })
-        }
-    }
-}
-
 // Code, then a scope that is admitted: 12, 8, 9, 10, 6, 12, 1, 2, 3, in this order.
 fn code_with_scope(v: &[u8], framed: Part) -> Parsed
     requires { ⌜ framed .offset + length (now v) < 9223372036854775808 ⌝ }
     ensures { λ r. ⌜ said r ≡ paper.scopeValue (now (v .entry)) (onPaper.said framed) ⌝ }
 {
-    if v.len() < 14 {
-        return Parsed::Refused(12);
-    }
-    match raw::read_len(&v[4..]) {
+    match inside::code_len(v) {
         Length::Refused(number) => Parsed::Refused(number),
         Length::Is(n) => {
             let size = n - 5;
-            if !is_text(v, Part { offset: 8, size }) {
-                return Parsed::Refused(6);
-            }
             let code = Part {
                 offset: framed.offset + 8,
                 size,
             };
-            scope(v, code, 4 + n, framed)
+            let scope = trim(framed, 4 + n, 0);
+            Parsed::Is(Value::JavaScriptCodeWithScope { code, scope })
         }
     }
 }

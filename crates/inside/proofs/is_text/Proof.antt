@@ -1,9 +1,9 @@
--- `value::is_text` meets its contract: the bytes of the part decide. Assumes nothing.
+-- `inside::is_text` meets its contract: the bytes of the part decide. Assumes nothing.
 use mathlib.Core.Path.{ap, _∙_}
 use borrow.Author.Needs.{needs}
 use Rattle.bson.specs.Utf8.{utf8}
-use Rattle.value.proofs.is_text.Statement.{statement}
-use Rattle.value.proofs.is_text.Tie as tie
+use Rattle.inside.proofs.is_text.Statement.{statement}
+use Rattle.inside.proofs.is_text.Tie as tie
 
 bytes-of-requires : tie.Need-bytes-of-requires
 bytes-of-requires c κs = search needs

@@ -1,4 +1,4 @@
--- `value::is_old_binary` meets its contract: the second length stands in the rest from 5. Assumes nothing.
+-- `inside::is_old_binary` meets its contract: the second length stands in the rest from 5. Assumes nothing.
 use mathlib.Core.Path.{ap}
 use native.Mathlib.Omega.{arith}
 use lib.ListN.{length, length-drop}
@@ -9,8 +9,8 @@ use Rattle.laws.proofs.AnswerLaws.{answered}
 use Rattle.laws.proofs.Common.{rest-part}
 use Rattle.laws.proofs.FramingLaws.{in-front-is, in-front-refuses}
 use Rattle.num.specs.Said.{saidUint32}
-use Rattle.value.proofs.is_old_binary.Statement.{statement}
-use Rattle.value.proofs.is_old_binary.Tie as tie
+use Rattle.inside.proofs.is_old_binary.Statement.{statement}
+use Rattle.inside.proofs.is_old_binary.Tie as tie
 
 returns : tie.Need-returns
 returns c = rw (lt-leb _ _ (c .if1 .taken))
