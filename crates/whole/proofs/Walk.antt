@@ -20,9 +20,9 @@ use Rattle.laws.proofs.OpenLaws.{value-opens, opens-shorter}
 use Rattle.laws.proofs.CheckLaws.{visit-says, walk-from, walk-eq, walk-ends, walk-refused, walk-onward}
 use Rattle.opening.specs.Said as opening
 use Rattle.opening.specs.declared.Opening as declared
-use Rattle.whole.specs.Said.{saidVisited}
-use Rattle.whole.specs.declared.Visited.{Visited}
-use Rattle.whole.specs.declared.Visited.the-variants.{Is, Refused}
+use Rattle.visiting.specs.Said.{saidVisited}
+use Rattle.visiting.specs.declared.Visited.{Visited}
+use Rattle.visiting.specs.declared.Visited.the-variants.{Is, Refused}
 
 unless-at-0 : {A : Type 0} (b : Bool) (k : ℕ) (x : Answer A) (n p : ℕ) → (x ≡ refuses n p → p ≡ 0) → unless b k x ≡ refuses n p → p ≡ 0
 unless-at-0 true k x n p f q = f q

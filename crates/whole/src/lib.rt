@@ -3,66 +3,23 @@ ghost use Prim.Native.Nat.{ℕ, _+_, _<_, _^_};
 ghost use mathlib.Core.Path.{_≡_};
 ghost use mathlib.Core.Bool.{true, false};
 ghost use lib.ListN.{length};
-ghost use Rattle.bson.specs.Bytes.{bytes};
 ghost use Rattle.bson.specs.Step.{cursor};
-ghost use Rattle.bson.specs.Check.{keyPasses, visit as visitOf, opened, walk, check as checkOf};
+ghost use Rattle.bson.specs.Check.{opened, walk, check as checkOf};
 ghost use Rattle.laws.proofs.StepLaws.{Yields};
-ghost use Rattle.part.specs.Said as onPaper;
 ghost use Rattle.iter.specs.Said.{saidElement};
-ghost use Rattle.whole.specs.Said.{said, saidLevel, saidVisited};
+ghost use Rattle.visiting.specs.Said.{saidLevel};
+ghost use Rattle.whole.specs.Said.{said};
 use iter::Cursor;
 use iter::Element;
 use iter::Step;
 use opening::Opening;
-use part::Part;
-use reading::Reading;
+use visiting::Level;
+use visiting::Visited;
 
 // How many values there are, those inside values included, or the number and the place of the first refusal.
 pub enum Verdict {
     Accepted(usize),
     Refused { number: u8, place: usize },
-}
-
-// Where a document lies: whether it is an array, its offset in the outermost slice, the depth of its values.
-struct Level {
-    array: bool,
-    base: usize,
-    depth: usize,
-}
-
-// What a value that passed opens, or the number of its refusal.
-enum Visited {
-    Is(Opening),
-    Refused(u8),
-}
-
-// The strict check asks for the keys of arrays, and for no others.
-fn key_passes(s: &[u8], strict: bool, level: Level, key: Part) -> bool
-    ensures { λ r. ⌜ ((position : ℕ) → r ≡ keyPasses strict (saidLevel level) position (bytes (now (s .entry)) (onPaper.said key))) ⌝ }
-{
-    if strict & level.array {
-        return array_key::is_good(part::bytes_of(s, key));
-    }
-    true
-}
-
-// The key (19), the reading, the depth (13), in this order.
-fn visit(s: &[u8], strict: bool, level: Level, element: Element) -> Visited
-    ensures { λ r. ⌜ ((position : ℕ) → saidVisited (level .base + element .place) r
-        ≡ visitOf strict (now (s .entry)) (saidLevel level) position (saidElement element)) ⌝ }
-{
-    if key_passes(s, strict, level, element.key) {
-        return match reading::value_of(s, element) {
-            Reading::Refused { number, place: _ } => Visited::Refused(number),
-            Reading::Is(value) => {
-                if level.depth <= 200 {
-                    return Visited::Is(opening::opening_of(value));
-                }
-                Visited::Refused(13)
-            }
-        };
-    }
-    Visited::Refused(19)
 }
 
 // Walks a document: its values in order, each opened.
@@ -110,7 +67,7 @@ fn open_value(s: &[u8], strict: bool, level: Level, element: Element) -> Verdict
     ensures { λ r. ⌜ ((position : ℕ) → said r
         ≡ opened strict (walk strict) (now (s .entry)) (saidLevel level) position (saidElement element)) ⌝ }
 {
-    match visit(s, strict, level, element) {
+    match visiting::visit(s, strict, level, element) {
         Visited::Refused(number) => Verdict::Refused {
             number,
             place: level.base + element.place,

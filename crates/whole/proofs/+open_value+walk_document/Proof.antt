@@ -9,8 +9,9 @@ use Rattle.laws.proofs.AnswerLaws.{answered}
 use Rattle.laws.proofs.StepLaws.{step-yields}
 use Rattle.laws.proofs.AdvanceLaws.{next-lands}
 use Rattle.laws.proofs.CheckLaws.{opened-count}
-use Rattle.whole.specs.Said.{said, saidLevel}
-use Rattle.whole.specs.declared.Visited.the-variants.{Is}
+use Rattle.visiting.specs.Said.{saidLevel}
+use Rattle.whole.specs.Said.{said}
+use Rattle.visiting.specs.declared.Visited.the-variants.{Is}
 use Rattle.whole.proofs.Walk.{refused-place, yields-placed, opened-refused, opened-closed, opened-inside}
 use Rattle.whole.proofs.Walk.{depth-fits, base-fits, inner-fits, inner-falls, visited-is, visited-refused}
 use Rattle.whole.proofs.Walk.{LeftFrom, left-first, left-ends, left-refused, left-value-refused, left-onward}
@@ -25,7 +26,7 @@ use Rattle.whole.proofs.walk_document.Kinds as walk-document-kinds
 use Rattle.whole.proofs.+open_value+walk_document.Lts-walk_document as walk-document-lts
 use Rattle.iter.proofs.next.Reads as next-reads
 use Rattle.part.proofs.bytes_of.Reads as bytes-of-reads
-use Rattle.whole.proofs.visit.Reads as visit-reads
+use Rattle.visiting.proofs.visit.Reads as visit-reads
 use Rattle.whole.proofs.+open_value+walk_document.{statement}
 use Rattle.whole.proofs.+open_value+walk_document.Tie.{close}
 

@@ -1,9 +1,9 @@
--- `whole::key_passes` meets its contract: the key of an array goes by its digits, any other passes. Assumes nothing.
+-- `visiting::key_passes` meets its contract: the key of an array goes by its digits, any other passes. Assumes nothing.
 use mathlib.Core.Path.{ap, _∙_}
 use Rattle.bson.specs.ArrayKey.{goodArrayKey}
 use borrow.Author.Needs.{needs}
-use Rattle.whole.proofs.key_passes.Statement.{statement}
-use Rattle.whole.proofs.key_passes.Tie as tie
+use Rattle.visiting.proofs.key_passes.Statement.{statement}
+use Rattle.visiting.proofs.key_passes.Tie as tie
 
 bytes-of-requires : tie.Need-bytes-of-requires
 bytes-of-requires c κs = search needs

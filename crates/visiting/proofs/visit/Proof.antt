@@ -1,4 +1,4 @@
--- `whole::visit` meets its contract: key, reading and depth in this order. Assumes nothing.
+-- `visiting::visit` meets its contract: key, reading and depth in this order. Assumes nothing.
 use mathlib.Core.Path.{sym, _∙_}
 use native.Mathlib.Omega.{arith}
 use borrow.Author.Tests.{lt-leb}
@@ -6,10 +6,10 @@ use Rattle.bson.specs.Check.{visit}
 use Rattle.laws.proofs.AnswerLaws.{answered}
 use Rattle.laws.proofs.CheckLaws.{visit-gives}
 use Rattle.reading.specs.Said as reading
-use Rattle.whole.specs.Said.{saidVisited}
+use Rattle.visiting.specs.Said.{saidVisited}
 use borrow.Author.Needs.{needs}
-use Rattle.whole.proofs.visit.Statement.{statement}
-use Rattle.whole.proofs.visit.Tie as tie
+use Rattle.visiting.proofs.visit.Statement.{statement}
+use Rattle.visiting.proofs.visit.Tie as tie
 
 key-passes-requires : tie.Need-key-passes-requires
 key-passes-requires c κs = search needs
