@@ -1,3 +1,4 @@
 pub mod Vectors
 pub mod Decided
 pub mod Report
+pub mod WriterPoints

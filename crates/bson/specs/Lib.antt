@@ -19,3 +19,4 @@ pub mod Writer
 pub mod Report
 pub mod Vectors
 pub mod Decided
+pub mod WriterPoints

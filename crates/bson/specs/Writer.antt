@@ -1,6 +1,6 @@
 -- The bounded writer: what each call answers, and the state and the buffer that it leaves (document 01, "Writer and joining").
 use Prim.Native.Nat.{ℕ, zero, suc, _+_, _-_, _*_}
-use mathlib.Core.List.{List, [], _∷_, _++_}
+use mathlib.Core.List.{List, [], _∷_}
 use mathlib.Core.Bool.{Bool, true, false, cond, _&&_}
 use lib.Dec.{leb, ltb, eqb}
 use lib.ListN.{length, getD, set, replicate}
@@ -148,13 +148,17 @@ openedTop d =
     (unless (leb 5 (roomOf d)) 14
     (gives (desk (pushed (set (d .state) 0 4) (markOf document)) (put (d .buffer) 0 (bytes32 5)))))
 
+-- one document fewer is open, and its zero is used
+abbrev pub popped : State → State
+popped w = set (set w 0 (used w + 1)) 1 (depth w - 1)
+
 -- "closing ends the innermost with its zero and the true length"
 unfoldable pub closed : Desk → Answer Desk
 closed d =
     then (innermost (d .state) (roomOf d)) λ kind.
     let w = d .state in
     let at = start w (depth w - 1) in
-    gives (desk (set (set w 0 (used w + 1)) 1 (depth w - 1)) (put (put (d .buffer) (used w) (0 ∷ [])) at (bytes32 (used w + 1 - at))))
+    gives (desk (popped w) (put (put (d .buffer) (used w) (0 ∷ [])) at (bytes32 (used w + 1 - at))))
 
 -- the calls
 pub data Call : Type 0 where

@@ -3,7 +3,7 @@ use Prim.Native.Nat.{ℕ}
 use mathlib.Core.Path.{_≡_, ap, sym, _∙_}
 use mathlib.Core.List.{List}
 use Rattle.bson.specs.Answer.{Answer, gives, refuses}
-use Rattle.bson.specs.Writer.{State, Written, written}
+use Rattle.bson.specs.Writer.{State, desk, Written, written}
 
 abbrev pub Determined : {A S : Type 0} → (A → S → Type 0) → Type 0
 Determined {A} {S} P = (r₁ r₂ : A) (s₁ s₂ : S) → P r₁ s₁ → P r₂ s₂ → r₁ ≡ r₂
@@ -16,17 +16,10 @@ DeterminedPart {A} {B} {S} now P = (r₁ r₂ : A) (s₁ s₂ : S) → P r₁ s�
 abbrev pub DeterminedBuf : {A S B : Type 0} → (S → B) → (A → S → Type 0) → Type 0
 DeterminedBuf {A} {S} {B} left P = (r₁ r₂ : A) (s₁ s₂ : S) → P r₁ s₁ → P r₂ s₂ → (r₁ ≡ r₂) × (left s₁ ≡ left s₂)
 
--- of a lent buffer and a lent state, what is left in both too
-abbrev pub DeterminedDesk : {A S B W : Type 0} → (S → B) → (S → W) → (A → S → Type 0) → Type 0
-DeterminedDesk {A} {S} {B} {W} left state P =
-    (r₁ r₂ : A) (s₁ s₂ : S) → P r₁ s₁ → P r₂ s₂ → (r₁ ≡ r₂) × (left s₁ ≡ left s₂) × (state s₁ ≡ state s₂)
-
--- what is written is a number, a buffer and a state
-pub written-same : (r₁ r₂ : ℕ) (b₁ b₂ : List ℕ) (w₁ w₂ : State) (x : Written)
-    → written r₁ w₁ b₁ ≡ x → written r₂ w₂ b₂ ≡ x → (r₁ ≡ r₂) × (b₁ ≡ b₂) × (w₁ ≡ w₂)
-written-same r₁ r₂ b₁ b₂ w₁ w₂ x p q =
-    let e = p ∙ sym q in
-    (ap (λ (x : Written). x .number) e, ap (λ (x : Written). x .left .buffer) e, ap (λ (x : Written). x .left .state) e)
+-- what a writer's call leaves is a number, and a state and a buffer
+pub written-same : (r₁ r₂ : ℕ) (w₁ w₂ : State) (b₁ b₂ : List ℕ) (x : Written)
+    → written r₁ w₁ b₁ ≡ x → written r₂ w₂ b₂ ≡ x → (r₁ ≡ r₂) × (desk w₁ b₁ ≡ desk w₂ b₂)
+written-same r₁ r₂ w₁ w₂ b₁ b₂ x p q = (ap (λ (y : Written). y .number) (p ∙ sym q), ap (λ (y : Written). y .left) (p ∙ sym q))
 
 -- a meaning that can be read back is another's for no other case
 pub injective-by : {A B : Type 0} (said : A → B) (unsaid : B → A) → ((a : A) → unsaid (said a) ≡ a) → (a b : A) → said a ≡ said b → a ≡ b

@@ -12,14 +12,14 @@ use borrow.Author.Tests.{le-leb, lt-ltb, eq-eqb, leb-true, leb-false, ltb-true, 
 use Rattle.bson.specs.Answer.{Answer, gives}
 use Rattle.bson.specs.Output.{put}
 use Rattle.bson.specs.Grammar.{bytes32, row, Nest, document, nestTag, elementBytes}
-use Rattle.bson.specs.Writer.{State, used, depth, start, mark, Kind, kindOf, markOf, passes, kindHolds, stands, stand, room, possible, Desk, desk}
+use Rattle.bson.specs.Writer.{State, used, depth, start, mark, Kind, kindOf, markOf, passes, kindHolds, stands, stand, room, possible, Desk, desk, popped}
 use Rattle.bson.specs.Writer.{roomOf, innermost, nextDepth, keyIn, keyPasses, grown, appended, pushed, openedIn, openedTop, closed}
 use Rattle.bson.specs.Writer.{Call, openTop, close, append, openNest, answer}
 use Rattle.laws.proofs.AnswerLaws.{gives-injective, unless-gives, then-gives}
 use Rattle.laws.proofs.Common.{split, both-hold}
 use Rattle.laws.proofs.GrammarLaws.{length-bytes32}
 use Rattle.laws.proofs.OutputLaws.{length-put, drop-put}
-use Rattle.laws.proofs.WriterWords.{popped, grown-words, grown-used, pushed-used, popped-used}
+use Rattle.laws.proofs.WriterWords.{grown-words, grown-used, pushed-used, popped-used}
 
 -- the room is in the buffer, and a length is an i32
 pub room-within : (n : ℕ) → (room n ≤ n) × (room n ≤ 2147483647)
@@ -224,7 +224,7 @@ appended-behind : (d : Desk) (more tag : ℕ) (key : List ℕ) (good : Bool) (va
 appended-behind d more tag key good value e h a =
     let new = elementBytes tag (keyIn (a .kind) key) value in
     let (r, s) = room-within (length (d .buffer)) in
-    let u = grown-used (d .state) h (a .kind) (length new) in
+    let u = grown-used (d .state) (a .kind) (length new) (omega arith) in
     subst (Behind d) (sym (a .is)) (put-behind d _ (used (d .state)) new (omega (arith, a .fits)) (omega arith) (omega arith))
 
 topped-behind : (d e : Desk) → length (d .state) ≡ 406 → Topped d e → Behind d e

@@ -1,18 +1,15 @@
 -- The words of a writer's state: of a fresh one, after an element more, after an opening and after a closing (document 01, "Writer and
 -- joining"). Assumes nothing.
-use Prim.Native.Nat.{ℕ, _+_, _-_, _≤_, _<_}
+use Prim.Native.Nat.{ℕ, zero, suc, _+_, _-_, _≤_, _<_}
 use mathlib.Core.Path.{_≡_, refl, ap, _∙_}
 use mathlib.Core.Bool.{true}
+use mathlib.Core.List.{[], _∷_}
 use native.Mathlib.Omega.{arith}
 use lib.ListN.{length, getD, set, length-replicate, length-set}
 use lib.Seq.{getD-set-same, getD-set-other}
 use borrow.Author.Tests.{lt-ltb, leb-true}
 use Rattle.bson.specs.Answer.{gives}
-use Rattle.bson.specs.Writer.{State, fresh, used, depth, startAt, start, markAt, mark, Kind, inDocument, inArray, kindOf, kindHolds, grown, pushed}
-
--- one document fewer is open, and its zero is used
-abbrev pub popped : State → State
-popped w = set (set w 0 (used w + 1)) 1 (depth w - 1)
+use Rattle.bson.specs.Writer.{State, fresh, used, depth, startAt, start, markAt, mark, Kind, inDocument, inArray, kindOf, kindHolds, grown, pushed, popped}
 
 -- one element more, in an array of so many
 abbrev pub onceMore : Kind → Kind
@@ -31,21 +28,19 @@ kind-array : (n : ℕ) → n ≤ 2147483647 → kindOf n ≡ gives (inArray n)
 unfolding kindOf
 kind-array n h = rw (lt-ltb n 0x8000_0000 (omega arith))
 
-module _ (w : State) (h : length w ≡ 406) where
-  stored : (i x : ℕ) → i < 406 → getD (set w i x) i 0 ≡ x
-  stored i x l = getD-set-same w i x 0 (omega arith)
+-- a word that is not 0 is there
+pub there : (w : State) (i : ℕ) → 0 < getD w i 0 → i < length w
+there [] i h = absurd (omega arith)
+there (x ∷ w) zero h = omega arith
+there (x ∷ w) (suc i) h = omega (arith, there w i h)
 
+module _ (w : State) where
   -- all but the used bytes and the innermost's mark stay
-  pub grown-words : (kind : Kind) (n : ℕ) → length (grown kind w n) ≡ 406
+  pub grown-used : (kind : Kind) (n : ℕ) → 0 < length w → used (grown kind w n) ≡ used w + n
   unfolding grown
-  grown-words inDocument n = length-set w 0 _ ∙ h
-  grown-words (inArray count) n = length-set (set w 0 (used w + n)) _ _ ∙ length-set w 0 _ ∙ h
-
-  pub grown-used : (kind : Kind) (n : ℕ) → used (grown kind w n) ≡ used w + n
-  unfolding grown
-  grown-used inDocument n = stored 0 _ (omega arith)
-  grown-used (inArray count) n =
-      getD-set-other (set w 0 (used w + n)) (markAt (depth w - 1)) 0 (count + 1) 0 (λ e. omega arith) ∙ stored 0 _ (omega arith)
+  grown-used inDocument n h = getD-set-same w 0 (used w + n) 0 h
+  grown-used (inArray count) n h =
+      getD-set-other (set w 0 (used w + n)) (markAt (depth w - 1)) 0 (count + 1) 0 (λ e. omega arith) ∙ getD-set-same w 0 (used w + n) 0 h
 
   pub grown-other : (kind : Kind) (n i : ℕ) → 0 < i → (i ≡ markAt (depth w - 1) → ⊥) → getD (grown kind w n) i 0 ≡ getD w i 0
   unfolding grown
@@ -55,6 +50,15 @@ module _ (w : State) (h : length w ≡ 406) where
 
   pub grown-depth : (kind : Kind) (n : ℕ) → depth (grown kind w n) ≡ depth w
   grown-depth kind n = grown-other kind n 1 (omega arith) (λ e. omega arith)
+
+module _ (w : State) (h : length w ≡ 406) where
+  stored : (i x : ℕ) → i < 406 → getD (set w i x) i 0 ≡ x
+  stored i x l = getD-set-same w i x 0 (omega arith)
+
+  pub grown-words : (kind : Kind) (n : ℕ) → length (grown kind w n) ≡ 406
+  unfolding grown
+  grown-words inDocument n = length-set w 0 _ ∙ h
+  grown-words (inArray count) n = length-set (set w 0 (used w + n)) _ _ ∙ length-set w 0 _ ∙ h
 
   -- the innermost's kind; its count stays a number below 2³¹, since it is none above the used bytes
   pub grown-mark : (kind : Kind) (n : ℕ) → kindHolds (used w) kind ≡ true → used w < 2147483647 → 0 < depth w → depth w ≤ 202

@@ -13,13 +13,13 @@ use Rattle.bson.specs.Decimal.{decimal}
 use Rattle.bson.specs.Output.{put}
 use Rattle.bson.specs.Grammar.{bytes32, Item, row, Nest, document, array, nestTag, isArray, Elements, none, leaf, nest, elementBytes}
 use Rattle.bson.specs.Grammar.{documentOf, listBytes, treeBytes}
-use Rattle.bson.specs.Writer.{State, fresh, used, depth, startAt, start, markAt, mark, Kind, inArray, kindOf, markOf, Desk, desk, roomOf, innermost}
+use Rattle.bson.specs.Writer.{State, fresh, used, depth, startAt, start, markAt, mark, Kind, inArray, kindOf, markOf, Desk, desk, roomOf, innermost, popped}
 use Rattle.bson.specs.Writer.{keyIn, grown, pushed, close, openTop, append, openNest, answer}
 use Rattle.theorems.specs.ReadBack.{Open, opened, behind, count, with, keyFor}
 use Rattle.laws.proofs.AnswerLaws.{gives-injective}
 use Rattle.laws.proofs.GrammarLaws.{length-bytes32, length-document}
 use Rattle.laws.proofs.OutputLaws.{length-put, take-put, take-put-in, put-over}
-use Rattle.laws.proofs.WriterWords.{popped, onceMore, fresh-words, grown-words, grown-used, grown-other, grown-depth, grown-mark}
+use Rattle.laws.proofs.WriterWords.{onceMore, fresh-words, grown-words, grown-used, grown-other, grown-depth, grown-mark}
 use Rattle.laws.proofs.WriterWords.{pushed-words, pushed-other, pushed-used, pushed-depth, pushed-start, pushed-mark}
 use Rattle.laws.proofs.WriterWords.{popped-words, popped-used, popped-depth, popped-other}
 use Rattle.laws.proofs.WriterLaws.{room-within, innermost-says, sizes, taken, Appended, appended-says, opened-says, topped-says}
@@ -105,7 +105,7 @@ module _ (d : Desk) (o : Open) (around : List Open) (h : Holds d (o ∷ around))
       let l = last-is in
       let inner = innermost-says d kind i in
       let s = sizes d kind inner in
-      let same : (j : ℕ) → 0 < j → (j ≡ markAt (depth w - 1) → ⊥) → _ = grown-other w (h .words) kind n in
+      let same : (j : ℕ) → 0 < j → (j ≡ markAt (depth w - 1) → ⊥) → _ = grown-other w kind n in
       let starts : (j : ℕ) → start v j ≡ start w j = λ j. same (startAt j) (omega arith) (λ e. omega arith) in
       let marks : (j : ℕ) → j < length around → mark v j ≡ mark w j = λ j b. same (markAt j) (omega arith) (λ e. omega arith) in
       let marked = grown-mark w (h .words) kind n (s .counted) (omega (arith, s .small, s .some)) (s .some) (s .most) (inner .kinded) in
@@ -123,11 +123,11 @@ module _ (d : Desk) (o : Open) (around : List Open) (h : Holds d (o ∷ around))
       let w = d .state in
       let new = elementBytes tag (keyIn (a .kind) key) value in
       let (r, s) = room-within (length (d .buffer)) in
-      let u = grown-used w (h .words) (a .kind) (length new) in
+      let u = grown-used w (a .kind) (length new) (omega (arith, h .words)) in
       let f : used w + length new ≤ length (d .buffer) = omega (arith, a .fits) in
       let b : HoldsAll (taken d (a .kind) new) (o ∷ around) 1 (shown (o ∷ around) ++ new) = record {
         words = grown-words w (h .words) (a .kind) (length new);
-        deep = grown-depth w (h .words) (a .kind) (length new) ∙ h .deep;
+        deep = grown-depth w (a .kind) (length new) ∙ h .deep;
         within = omega (arith, length-put (d .buffer) (used w) new f);
         bytes = ap (λ (x : ℕ). take x (put (d .buffer) (used w) new)) u
             ∙ take-put (d .buffer) (used w) new f

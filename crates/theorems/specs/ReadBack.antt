@@ -1,5 +1,5 @@
 -- What the writer closes reads back as exactly the elements given, and every tree can be written (demand 2; document 01, "Writer and joining").
-use Prim.Native.Nat.{ℕ, suc, _<_, _≤_}
+use Prim.Native.Nat.{ℕ, suc, _≤_}
 use mathlib.Core.Path.{_≡_}
 use mathlib.Core.List.{List, [], _∷_}
 use mathlib.Core.Bool.{false, cond}
@@ -7,7 +7,7 @@ use lib.ListN.{length, take}
 use Rattle.bson.specs.Answer.{Answer, gives, refuses}
 use Rattle.bson.specs.Check.{check}
 use Rattle.bson.specs.Decimal.{decimal}
-use Rattle.bson.specs.Grammar.{Item, Nest, document, isArray, Elements, none, leaf, nest, treeBytes, size, Shallow, Fitting, Good, Numbered}
+use Rattle.bson.specs.Grammar.{Nest, document, isArray, Elements, none, leaf, nest, treeBytes, size, Shallow, Fitting, Good, Numbered}
 use Rattle.bson.specs.Meaning.{Means}
 use Rattle.bson.specs.Writer.{fresh, used, depth, Desk, desk, Call, openTop, close, append, openNest, answer}
 

@@ -1,0 +1,4 @@
+pub mod Cascade
+pub mod Element
+pub mod Valued
+pub mod Determined

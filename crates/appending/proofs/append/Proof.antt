@@ -1,0 +1,51 @@
+-- `appending::append` meets its contract: refused as the innermost is, or appended to it. Assumes nothing.
+use Rattle.bson.specs.Writer.{appended}
+use Rattle.laws.proofs.AnswerLaws.{answered}
+use Rattle.writer_state.specs.Said.{said}
+use Rattle.appending.specs.Refusal.{appending}
+use borrow.Author.Needs.{needs}
+use Rattle.appending.proofs.append.Statement.{statement}
+use Rattle.appending.proofs.append.Tie as tie
+
+room-of-requires : tie.Need-room-of-requires
+room-of-requires c κs = tt
+
+innermost-requires : tie.Need-innermost-requires
+innermost-requires c κs = tt
+
+enum-known-kind : tie.Need-enum-known-kind
+enum-known-kind c = search needs
+
+append-in-requires : tie.Need-append-in-requires
+append-in-requires c κs =
+    let i = c .before .before .before .before .before in
+    (i .before .before .room-of .ensures, answered said (i .innermost .ensures) (c .before .before .before .kind .given .1))
+
+enum-known-n : tie.Need-enum-known-n
+enum-known-n c = search needs
+
+same-length : tie.Need-same-length
+same-length c = search needs
+
+returns : tie.Need-returns
+returns c = search needs
+
+returns-2 : tie.Need-returns-2
+unfolding appending appended
+returns-2 c =
+    let i = c .before .before .before in
+    let e = answered said (i .innermost .ensures) (c .before .n .given .1) in
+    rw (← i .before .before .room-of .ensures, e)
+
+pub append-spec : {M : Type 1} → statement M
+append-spec =
+    tie.close
+    (tie.spec
+    room-of-requires
+    innermost-requires
+    enum-known-kind
+    append-in-requires
+    enum-known-n
+    same-length
+    returns
+    returns-2)

@@ -1,0 +1,49 @@
+-- `appending::put_key` meets its contract: a key by its kind. Assumes nothing.
+use Rattle.bson.specs.Writer.{keyIn}
+use Rattle.writer_state.specs.Said.{saidKind}
+use borrow.Author.Needs.{needs}
+use Rattle.appending.proofs.put_key.Statement.{statement}
+use Rattle.appending.proofs.put_key.Tie as tie
+
+enum-told : tie.Need-enum-told
+enum-told c = search needs
+
+put-text-requires : tie.Need-put-text-requires
+put-text-requires c κs = tt
+
+enum-known-kind : tie.Need-enum-known-kind
+enum-known-kind c = search needs
+
+cast-put-decimal : tie.Need-cast-put-decimal
+cast-put-decimal c = search needs
+
+put-decimal-requires : tie.Need-put-decimal-requires
+put-decimal-requires c κs = tt
+
+same-length : tie.Need-same-length
+same-length c = search needs
+
+returns : tie.Need-returns
+unfolding keyIn saidKind
+returns c = rw (c .before .before .before .before .enum-told .given .1) (c .before .before .put-text .ensures)
+
+same-length-2 : tie.Need-same-length-2
+same-length-2 c = search needs
+
+returns-2 : tie.Need-returns-2
+unfolding keyIn saidKind
+returns-2 c = rw (c .before .before .before .before .before .kind .given .1) (c .before .before .put-decimal .ensures)
+
+pub put-key-spec : {M : Type 1} → statement M
+put-key-spec =
+    tie.close
+    (tie.spec
+    enum-told
+    put-text-requires
+    enum-known-kind
+    cast-put-decimal
+    put-decimal-requires
+    same-length
+    returns
+    same-length-2
+    returns-2)

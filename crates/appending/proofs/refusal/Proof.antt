@@ -1,0 +1,86 @@
+-- `appending::refusal` meets its contract: each way out by the test that led there. Assumes nothing.
+use Prim.Native.Nat.{ℕ}
+use mathlib.Core.Path.{sym, ap, _∙_}
+use mathlib.Core.Bool.{Bool, cond}
+use native.Mathlib.Omega.{arith}
+use Rattle.appending.proofs.Cascade.{too-deep, not-in-order, room-decides}
+use borrow.Author.Needs.{needs}
+use Rattle.appending.proofs.refusal.Statement.{statement}
+use Rattle.appending.proofs.refusal.Tie as tie
+
+next-depth-requires : tie.Need-next-depth-requires
+next-depth-requires c κs = search needs
+
+returns : tie.Need-returns
+returns c = too-deep _ _ _ _ _ _ _ _ (c .before .next-depth .ensures) (c .if1 .taken)
+
+key-passes-requires : tie.Need-key-passes-requires
+key-passes-requires c κs = tt
+
+used-requires : tie.Need-used-requires
+used-requires c κs = tt
+
+depth-requires : tie.Need-depth-requires
+depth-requires c κs = tt
+
+add-left : tie.Need-add-left
+add-left c = search needs
+
+sub-left : tie.Need-sub-left
+sub-left c = search needs
+
+key-size-requires : tie.Need-key-size-requires
+key-size-requires c κs = tt
+
+add-fit : tie.Need-add-fit
+add-fit c = search needs
+
+add-fit-2 : tie.Need-add-fit-2
+add-fit-2 c = search needs
+
+fit-requires : tie.Need-fit-requires
+fit-requires c κs = tt
+
+returns-2 : tie.Need-returns-2
+returns-2 c =
+    let k = c .before .before in
+    let b = k .before .before .before in
+    let e = room-decides _ _ _ _ _ _ _ _ (b .before .before .before .next-depth .ensures) (b .before .before .if1 .left) _
+    (b .before .key-passes .ensures)
+    (b .if2 .taken) _ _ _ (k .before .before .used .ensures .0) (k .before .depth .ensures .0) (k .key-size .ensures .0) (omega arith)
+    _ (c .before .fit .ensures) in
+    ap (λ (f : Bool). cond {A = ℕ} f 0 14) (sym (c .if3 .taken)) ∙ e
+
+returns-3 : tie.Need-returns-3
+returns-3 c =
+    let k = c .before .before in
+    let b = k .before .before .before in
+    let e = room-decides _ _ _ _ _ _ _ _ (b .before .before .before .next-depth .ensures) (b .before .before .if1 .left) _
+    (b .before .key-passes .ensures)
+    (b .if2 .taken) _ _ _ (k .before .before .used .ensures .0) (k .before .depth .ensures .0) (k .key-size .ensures .0) (omega arith)
+    _ (c .before .fit .ensures) in
+    ap (λ (f : Bool). cond {A = ℕ} f 0 14) (sym (c .if3 .left)) ∙ e
+
+returns-4 : tie.Need-returns-4
+returns-4 c =
+    not-in-order _ _ _ _ _ _ _ _ (c .before .before .before .next-depth .ensures) (c .before .before .if1 .left) _
+    (c .before .key-passes .ensures) (c .if2 .left)
+
+pub refusal-spec : {M : Type 1} → statement M
+refusal-spec =
+    tie.close
+    (tie.spec
+    next-depth-requires
+    returns
+    key-passes-requires
+    used-requires
+    depth-requires
+    add-left
+    sub-left
+    key-size-requires
+    add-fit
+    add-fit-2
+    fit-requires
+    returns-2
+    returns-3
+    returns-4)

@@ -1,0 +1,19 @@
+-- `nesting::open_document` meets its contract: the tag and the mark of a document. Assumes nothing.
+use Rattle.bson.specs.Writer.{openedIn, answer, performed}
+use Rattle.nesting.specs.Opened.{openedAs}
+use borrow.Author.Needs.{needs}
+use Rattle.nesting.proofs.open_document.Statement.{statement}
+use Rattle.nesting.proofs.open_document.Tie as tie
+
+open-in-requires : tie.Need-open-in-requires
+open-in-requires c κs = tt
+
+same-length : tie.Need-same-length
+same-length c = search needs
+
+returns : tie.Need-returns
+unfolding performed answer openedIn openedAs
+returns c = c .before .before .open-in .ensures
+
+pub open-document-spec : {M : Type 1} → statement M
+open-document-spec = tie.close (tie.spec open-in-requires same-length returns)

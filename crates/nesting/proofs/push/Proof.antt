@@ -1,0 +1,63 @@
+-- `nesting::push` meets its contract: the stores are the definition. Assumes nothing.
+use Rattle.nesting.specs.Opened.{pushedAt}
+use borrow.Author.Needs.{needs}
+use Rattle.nesting.proofs.push.Statement.{statement}
+use Rattle.nesting.proofs.push.Tie as tie
+
+depth-requires : tie.Need-depth-requires
+depth-requires c κs = tt
+
+mul-words : tie.Need-mul-words
+mul-words c = search needs
+
+add-words : tie.Need-add-words
+add-words c = search needs
+
+mul-words-2 : tie.Need-mul-words-2
+mul-words-2 c = search needs
+
+element-write-words : tie.Need-element-write-words
+element-write-words c = search needs
+
+mul-words-3 : tie.Need-mul-words-3
+mul-words-3 c = search needs
+
+add-words-2 : tie.Need-add-words-2
+add-words-2 c = search needs
+
+mul-words-4 : tie.Need-mul-words-4
+mul-words-4 c = search needs
+
+element-write-words-2 : tie.Need-element-write-words-2
+element-write-words-2 c = search needs
+
+add-words-3 : tie.Need-add-words-3
+add-words-3 c = search needs
+
+cast-words : tie.Need-cast-words
+cast-words c = search needs
+
+element-write-words-3 : tie.Need-element-write-words-3
+element-write-words-3 c = search needs
+
+returns : tie.Need-returns
+unfolding pushedAt
+returns c = rw (c .depth .ensures .0)
+
+pub push-spec : {M : Type 1} → statement M
+push-spec =
+    tie.close
+    (tie.spec
+    depth-requires
+    mul-words
+    add-words
+    mul-words-2
+    element-write-words
+    mul-words-3
+    add-words-2
+    mul-words-4
+    element-write-words-2
+    add-words-3
+    cast-words
+    element-write-words-3
+    returns)

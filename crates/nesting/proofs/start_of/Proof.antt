@@ -1,0 +1,46 @@
+-- `nesting::start_of` meets its contract: the word is the definition's. Assumes nothing.
+use mathlib.Core.Path.{_∙_, ap}
+use Prim.Native.Nat.{ℕ, _+_, _*_, _-_}
+use lib.ListN.{getD}
+use borrow.Author.Needs.{needs}
+use Rattle.nesting.proofs.start_of.Statement.{statement}
+use Rattle.nesting.proofs.start_of.Tie as tie
+
+depth-requires : tie.Need-depth-requires
+depth-requires c κs = tt
+
+sub-wide : tie.Need-sub-wide
+sub-wide c = search needs
+
+mul-wide : tie.Need-mul-wide
+mul-wide c = search needs
+
+add-wide : tie.Need-add-wide
+add-wide c = search needs
+
+mul-wide-2 : tie.Need-mul-wide-2
+mul-wide-2 c = search needs
+
+element-copy-out-wide : tie.Need-element-copy-out-wide
+element-copy-out-wide c = search needs
+
+wide-requires : tie.Need-wide-requires
+wide-requires c κs = tt
+
+returns : tie.Need-returns
+returns c =
+    let w = c .before .before .before .args .words .now in
+    c .wide .ensures .0 ∙ ap (λ (d : ℕ). getD w (2 + 2 * (d - 1)) 0) (c .before .before .depth .ensures .0)
+
+pub start-of-spec : {M : Type 1} → statement M
+start-of-spec =
+    tie.close
+    (tie.spec
+    depth-requires
+    sub-wide
+    mul-wide
+    add-wide
+    mul-wide-2
+    element-copy-out-wide
+    wide-requires
+    returns)

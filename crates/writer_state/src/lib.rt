@@ -1,0 +1,133 @@
+// The writer's state, lent as words: which states can be (18), and how they change (document 01, "Writer and joining").
+ghost use mathlib.Core.Path.{_≡_};
+ghost use Prim.Native.Nat.{_≤_, _<_, _^_};
+ghost use Rattle.bson.specs.Writer as paper;
+ghost use Rattle.writer_state.specs.Said.{saidKind, said};
+
+// What an open document is; an array has so many elements.
+pub enum Kind {
+    Document,
+    Array(u32),
+}
+
+// The kind of the innermost, or the number of the refusal.
+pub enum Told {
+    Is(Kind),
+    Refused(u8),
+}
+
+// The kind that a mark tells: the one place that reads it.
+fn kind_of(mark: u32) -> Told
+    ensures { λ r. ⌜ said r ≡ paper.kindOf mark ⌝ }
+{
+    if mark < 0x8000_0000 {
+        return Told::Is(Kind::Array(mark));
+    }
+    if mark == 0xFFFF_FFFF {
+        return Told::Is(Kind::Document);
+    }
+    Told::Refused(18)
+}
+
+// Whether a kind can be where so many bytes are used.
+fn holds(kind: Kind, used: u32) -> bool
+    ensures { λ r. ⌜ r ≡ paper.kindHolds used (saidKind kind) ⌝ }
+{
+    match kind {
+        Kind::Document => true,
+        Kind::Array(count) => count <= used,
+    }
+}
+
+// Whether the open document at an index can be, whose bytes end here.
+fn stands(words: &[u32; 406], i: usize, end: u32) -> bool
+    requires { ⌜ i < 202 ⌝ }
+    ensures { λ r. ⌜ r ≡ paper.stands (now (words .entry)) i end ⌝ }
+{
+    let start = words[2 + 2 * i];
+    if end < 4 {
+        return false;
+    }
+    if end - 4 < start {
+        return false;
+    }
+    match kind_of(words[3 + 2 * i]) {
+        Told::Is(kind) => holds(kind, words[0]),
+        Told::Refused(_) => false,
+    }
+}
+
+// Whether so many open documents can be, from the innermost out.
+fn stand(words: &[u32; 406], depth: usize) -> bool
+    requires { ⌜ depth ≤ 202 ⌝ }
+    ensures { λ r. ⌜ r ≡ paper.stand (now (words .entry)) depth (paper.used (now (words .entry))) ⌝ }
+{
+    let mut end = words[0];
+    let mut i = depth;
+    while 0 < i {
+        i -= 1;
+        if !stands(words, i, end) {
+            return false;
+        }
+        end = words[2 + 2 * i];
+    }
+    end == 0
+}
+
+// The smaller of a buffer's length and 2,147,483,647.
+pub fn room_of(len: usize) -> usize
+    ensures { λ r. ⌜ r ≡ paper.room len ⌝ }
+{
+    if len <= 2147483647 {
+        return len;
+    }
+    2147483647
+}
+
+// A word as a size.
+pub fn wide(word: u32) -> usize
+    ensures { λ r. ⌜ (r ≡ word) × (r < 2 ^ 32) ⌝ }
+{
+    word as usize
+}
+
+// How many bytes are used.
+pub fn used(words: &[u32; 406]) -> usize
+    ensures { λ r. ⌜ (r ≡ paper.used (now (words .entry))) × (r < 2 ^ 32) ⌝ }
+{
+    wide(words[0])
+}
+
+// How many documents are open.
+pub fn depth(words: &[u32; 406]) -> usize
+    ensures { λ r. ⌜ (r ≡ paper.depth (now (words .entry))) × (r < 2 ^ 32) ⌝ }
+{
+    wide(words[1])
+}
+
+// Whether a state can be, in so much room.
+pub fn possible(words: &[u32; 406], room: usize) -> bool
+    ensures { λ r. ⌜ r ≡ paper.possible (now (words .entry)) room ⌝ }
+{
+    let depth = depth(words);
+    if 202 < depth {
+        return false;
+    }
+    if room < used(words) + depth {
+        return false;
+    }
+    stand(words, depth)
+}
+
+// The kind of the innermost, or 18.
+pub fn innermost(words: &[u32; 406], room: usize) -> Told
+    ensures { λ r. ⌜ said r ≡ paper.innermost (now (words .entry)) room ⌝ }
+{
+    if possible(words, room) {
+        let depth = depth(words);
+        if 0 < depth {
+            return kind_of(words[3 + 2 * (depth - 1)]);
+        }
+    }
+    Told::Refused(18)
+}
