@@ -1,0 +1,143 @@
+// Numbers, booleans and the types without a value, appended to lent state (document 01, "Writer and joining").
+ghost use mathlib.Core.Path.{_≡_};
+ghost use mathlib.Core.Bool.{true};
+ghost use mathlib.Core.List.{_++_};
+ghost use Rattle.bson.specs.Grammar as grammar;
+ghost use Rattle.bson.specs.Value as value;
+ghost use Rattle.bson.specs.Writer as writer;
+ghost use Rattle.appending.specs.Refusal.{appending};
+
+// The bits of a number, by two's complement.
+fn bits32(n: i32) -> u32
+    ensures { λ r. ⌜ r ≡ grammar.unsigned 0x8000_0000 n ⌝ }
+{
+    if 0 <= n {
+        n as u32
+    } else {
+        4294967295 - ((-1 - n) as u32)
+    }
+}
+
+fn bits64(n: i64) -> u64
+    ensures { λ r. ⌜ r ≡ grammar.unsigned 0x8000_0000_0000_0000 n ⌝ }
+{
+    if 0 <= n {
+        n as u64
+    } else {
+        18446744073709551615 - ((-1 - n) as u64)
+    }
+}
+
+// Appends two numbers of four bytes.
+fn append_words(
+    out: &mut [u8],
+    words: &mut [u32; 406],
+    tag: u8,
+    key: &[u8],
+    first: usize,
+    second: usize,
+) -> u8
+    ensures { λ r. ⌜ writer.written r (now (words .exit)) (now (out .exit))
+        ≡ appending (now (words .entry)) (now (out .entry)) 0 tag (now (key .entry)) true (grammar.bytes32 first ++ grammar.bytes32 second) ⌝ }
+{
+    let p = encode::bytes32(first);
+    let q = encode::bytes32(second);
+    appending::append(out, words, 0, tag, key, true, &p, &q, b"", b"")
+}
+
+// Appends a number of eight bytes.
+fn append_eight(out: &mut [u8], words: &mut [u32; 406], tag: u8, key: &[u8], n: u64) -> u8
+    ensures { λ r. ⌜ writer.written r (now (words .exit)) (now (out .exit))
+        ≡ appending (now (words .entry)) (now (out .entry)) 0 tag (now (key .entry)) true (grammar.bytes64 n) ⌝ }
+{
+    append_words(out, words, tag, key, n as usize, (n / 4294967296) as usize)
+}
+
+// Appends a double by its bits.
+pub fn append_double(out: &mut [u8], words: &mut [u32; 406], key: &[u8], bits: u64) -> u8
+    ensures { λ r. ⌜ writer.written r (now (words .exit)) (now (out .exit))
+        ≡ writer.performed (writer.append (now (key .entry)) (value.double bits)) (now (words .entry)) (now (out .entry)) ⌝ }
+{
+    append_eight(out, words, 0x01, key, bits)
+}
+
+// Appends a boolean.
+pub fn append_bool(out: &mut [u8], words: &mut [u32; 406], key: &[u8], b: bool) -> u8
+    ensures { λ r. ⌜ writer.written r (now (words .exit)) (now (out .exit))
+        ≡ writer.performed (writer.append (now (key .entry)) (value.boolean b)) (now (words .entry)) (now (out .entry)) ⌝ }
+{
+    let byte = b as u8;
+    let v = [byte];
+    appending::append(out, words, 0, 0x08, key, true, &v, b"", b"", b"")
+}
+
+// Appends an int32.
+pub fn append_int32(out: &mut [u8], words: &mut [u32; 406], key: &[u8], n: i32) -> u8
+    ensures { λ r. ⌜ writer.written r (now (words .exit)) (now (out .exit))
+        ≡ writer.performed (writer.append (now (key .entry)) (value.int32 n)) (now (words .entry)) (now (out .entry)) ⌝ }
+{
+    let v = encode::bytes32(bits32(n) as usize);
+    appending::append(out, words, 0, 0x10, key, true, &v, b"", b"", b"")
+}
+
+// Appends an int64.
+pub fn append_int64(out: &mut [u8], words: &mut [u32; 406], key: &[u8], n: i64) -> u8
+    ensures { λ r. ⌜ writer.written r (now (words .exit)) (now (out .exit))
+        ≡ writer.performed (writer.append (now (key .entry)) (value.int64 n)) (now (words .entry)) (now (out .entry)) ⌝ }
+{
+    append_eight(out, words, 0x12, key, bits64(n))
+}
+
+// Appends a datetime, in milliseconds since 1970.
+pub fn append_datetime(out: &mut [u8], words: &mut [u32; 406], key: &[u8], n: i64) -> u8
+    ensures { λ r. ⌜ writer.written r (now (words .exit)) (now (out .exit))
+        ≡ writer.performed (writer.append (now (key .entry)) (value.dateTime n)) (now (words .entry)) (now (out .entry)) ⌝ }
+{
+    append_eight(out, words, 0x09, key, bits64(n))
+}
+
+// Appends a timestamp: the increment, then the seconds.
+pub fn append_timestamp(
+    out: &mut [u8],
+    words: &mut [u32; 406],
+    key: &[u8],
+    increment: u32,
+    seconds: u32,
+) -> u8
+    ensures { λ r. ⌜ writer.written r (now (words .exit)) (now (out .exit))
+        ≡ writer.performed (writer.append (now (key .entry)) (value.timestamp increment seconds)) (now (words .entry)) (now (out .entry)) ⌝ }
+{
+    append_words(out, words, 0x11, key, increment as usize, seconds as usize)
+}
+
+// Appends a null.
+pub fn append_null(out: &mut [u8], words: &mut [u32; 406], key: &[u8]) -> u8
+    ensures { λ r. ⌜ writer.written r (now (words .exit)) (now (out .exit))
+        ≡ writer.performed (writer.append (now (key .entry)) value.null) (now (words .entry)) (now (out .entry)) ⌝ }
+{
+    appending::append(out, words, 0, 0x0A, key, true, b"", b"", b"", b"")
+}
+
+// Appends an undefined.
+pub fn append_undefined(out: &mut [u8], words: &mut [u32; 406], key: &[u8]) -> u8
+    ensures { λ r. ⌜ writer.written r (now (words .exit)) (now (out .exit))
+        ≡ writer.performed (writer.append (now (key .entry)) value.undefined) (now (words .entry)) (now (out .entry)) ⌝ }
+{
+    appending::append(out, words, 0, 0x06, key, true, b"", b"", b"", b"")
+}
+
+// Appends a min key.
+pub fn append_min_key(out: &mut [u8], words: &mut [u32; 406], key: &[u8]) -> u8
+    ensures { λ r. ⌜ writer.written r (now (words .exit)) (now (out .exit))
+        ≡ writer.performed (writer.append (now (key .entry)) value.minKey) (now (words .entry)) (now (out .entry)) ⌝ }
+{
+    appending::append(out, words, 0, 0xFF, key, true, b"", b"", b"", b"")
+}
+
+// Appends a max key.
+pub fn append_max_key(out: &mut [u8], words: &mut [u32; 406], key: &[u8]) -> u8
+    ensures { λ r. ⌜ writer.written r (now (words .exit)) (now (out .exit))
+        ≡ writer.performed (writer.append (now (key .entry)) value.maxKey) (now (words .entry)) (now (out .entry)) ⌝ }
+{
+    appending::append(out, words, 0, 0x7F, key, true, b"", b"", b"", b"")
+}

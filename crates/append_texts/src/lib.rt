@@ -1,0 +1,136 @@
+// Texts, binary data and ids, appended to lent state (document 01, "Writer and joining").
+ghost use mathlib.Core.Path.{_≡_};
+ghost use mathlib.Core.List.{_++_};
+ghost use Rattle.bson.specs.Grammar as grammar;
+ghost use Rattle.bson.specs.Utf8.{utf8};
+ghost use Rattle.bson.specs.Value as value;
+ghost use Rattle.bson.specs.Writer as writer;
+ghost use Rattle.appending.specs.Refusal.{appending};
+
+// Appends a text, with its length and its zero, and what comes behind it.
+fn append_text(
+    out: &mut [u8],
+    words: &mut [u32; 406],
+    tag: u8,
+    key: &[u8],
+    text: &[u8],
+    behind: &[u8],
+) -> u8
+    ensures { λ r. ⌜ writer.written r (now (words .exit)) (now (out .exit))
+        ≡ appending (now (words .entry)) (now (out .entry)) 0 tag (now (key .entry)) (utf8 (now (text .entry))) (grammar.stringBytes (now (text .entry)) ++ now (behind .entry)) ⌝ }
+{
+    let good = utf8::is_utf8(text);
+    let size = encode::bytes32(text.len() + 1);
+    appending::append(out, words, 0, tag, key, good, &size, text, b"\0", behind)
+}
+
+// Appends a string.
+pub fn append_string(out: &mut [u8], words: &mut [u32; 406], key: &[u8], text: &[u8]) -> u8
+    ensures { λ r. ⌜ writer.written r (now (words .exit)) (now (out .exit))
+        ≡ writer.performed (writer.append (now (key .entry)) (value.string (now (text .entry)))) (now (words .entry)) (now (out .entry)) ⌝ }
+{
+    append_text(out, words, 0x02, key, text, b"")
+}
+
+// Appends JavaScript code.
+pub fn append_code(out: &mut [u8], words: &mut [u32; 406], key: &[u8], text: &[u8]) -> u8
+    ensures { λ r. ⌜ writer.written r (now (words .exit)) (now (out .exit))
+        ≡ writer.performed (writer.append (now (key .entry)) (value.code (now (text .entry)))) (now (words .entry)) (now (out .entry)) ⌝ }
+{
+    append_text(out, words, 0x0D, key, text, b"")
+}
+
+// Appends a symbol.
+pub fn append_symbol(out: &mut [u8], words: &mut [u32; 406], key: &[u8], text: &[u8]) -> u8
+    ensures { λ r. ⌜ writer.written r (now (words .exit)) (now (out .exit))
+        ≡ writer.performed (writer.append (now (key .entry)) (value.symbol (now (text .entry)))) (now (words .entry)) (now (out .entry)) ⌝ }
+{
+    append_text(out, words, 0x0E, key, text, b"")
+}
+
+// Appends a DBPointer: a namespace and an id.
+pub fn append_dbpointer(
+    out: &mut [u8],
+    words: &mut [u32; 406],
+    key: &[u8],
+    namespace: &[u8],
+    id: &[u8; 12],
+) -> u8
+    ensures { λ r. ⌜ writer.written r (now (words .exit)) (now (out .exit))
+        ≡ writer.performed (writer.append (now (key .entry)) (value.dbPointer (now (namespace .entry)) (now (id .entry)))) (now (words .entry)) (now (out .entry)) ⌝ }
+{
+    append_text(out, words, 0x0C, key, namespace, id)
+}
+
+// Appends binary data; under subtype 2 with its inner length.
+pub fn append_binary(
+    out: &mut [u8],
+    words: &mut [u32; 406],
+    key: &[u8],
+    subtype: u8,
+    contents: &[u8],
+) -> u8
+    ensures { λ r. ⌜ writer.written r (now (words .exit)) (now (out .exit))
+        ≡ writer.performed (writer.append (now (key .entry)) (value.binary subtype (now (contents .entry)))) (now (words .entry)) (now (out .entry)) ⌝ }
+{
+    let size = encode::bytes32(contents.len());
+    if subtype == 2 {
+        let outer = encode::bytes32(contents.len() + 4);
+        return appending::append(
+            out,
+            words,
+            0,
+            0x05,
+            key,
+            true,
+            &outer,
+            b"\x02",
+            &size,
+            contents,
+        );
+    }
+    let kind = [subtype];
+    appending::append(out, words, 0, 0x05, key, true, &size, &kind, contents, b"")
+}
+
+// Appends a regular expression: a pattern and options.
+pub fn append_regex(
+    out: &mut [u8],
+    words: &mut [u32; 406],
+    key: &[u8],
+    pattern: &[u8],
+    options: &[u8],
+) -> u8
+    ensures { λ r. ⌜ writer.written r (now (words .exit)) (now (out .exit))
+        ≡ writer.performed (writer.append (now (key .entry)) (value.regex (now (pattern .entry)) (now (options .entry)))) (now (words .entry)) (now (out .entry)) ⌝ }
+{
+    let good = cstr::is_valid_cstr(pattern) & cstr::is_valid_cstr(options);
+    appending::append(
+        out,
+        words,
+        0,
+        0x0B,
+        key,
+        good,
+        pattern,
+        b"\0",
+        options,
+        b"\0",
+    )
+}
+
+// Appends an ObjectId.
+pub fn append_object_id(out: &mut [u8], words: &mut [u32; 406], key: &[u8], id: &[u8; 12]) -> u8
+    ensures { λ r. ⌜ writer.written r (now (words .exit)) (now (out .exit))
+        ≡ writer.performed (writer.append (now (key .entry)) (value.objectId (now (id .entry)))) (now (words .entry)) (now (out .entry)) ⌝ }
+{
+    appending::append(out, words, 0, 0x07, key, true, id, b"", b"", b"")
+}
+
+// Appends a decimal128 by its bits.
+pub fn append_decimal128(out: &mut [u8], words: &mut [u32; 406], key: &[u8], bits: &[u8; 16]) -> u8
+    ensures { λ r. ⌜ writer.written r (now (words .exit)) (now (out .exit))
+        ≡ writer.performed (writer.append (now (key .entry)) (value.decimal128 (now (bits .entry)))) (now (words .entry)) (now (out .entry)) ⌝ }
+{
+    appending::append(out, words, 0, 0x13, key, true, bits, b"", b"", b"")
+}
