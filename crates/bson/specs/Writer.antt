@@ -77,9 +77,9 @@ room size = cond (leb size 2147483647) size 2147483647
 
 -- no "impossible state": 202 open at most, the used bytes "and a zero for each open document" within the room
 unfoldable pub possible : State → ℕ → Bool
-possible w room =
+possible w space =
     leb (depth w) 202
-    && (leb (used w + depth w) room
+    && (leb (used w + depth w) space
     && stand w (depth w) (used w))
 
 -- the state and the buffer that a call is given, or leaves
@@ -95,8 +95,8 @@ roomOf d = room (length (d .buffer))
 
 -- "nothing open [..] or an impossible state" 18; else the kind of the innermost
 unfoldable pub innermost : State → ℕ → Answer Kind
-innermost w room =
-    unless (possible w room) 18
+innermost w space =
+    unless (possible w space) 18
     (unless (ltb 0 (depth w)) 18
     (kindOf (mark w (depth w - 1))))
 

@@ -10,8 +10,9 @@ use Rattle.bson.specs.Grammar.{document, array}
 use Rattle.bson.specs.Value.{boolean, int32, double, timestamp, string, null, binary, regex}
 use Rattle.bson.specs.Writer.{State, fresh, used, Call, openTop, close, append, openNest, Desk, desk, performed}
 
-abbrev pub room : ℕ → List ℕ
-room size = replicate size 0xEE
+-- a buffer before it is written to
+abbrev pub blank : ℕ → List ℕ
+blank size = replicate size 0xEE
 
 -- the state when the top is open, and when it is closed again
 abbrev pub top : State
@@ -106,7 +107,6 @@ noRoom =
     ∷ point openTop fresh 4 14
     ∷ point (openNest document []) top 12 0
     ∷ point (openNest document []) top 11 14
-    ∷ point (append [] null) (inTop 8 4 10) 99 18
     -- the key of the eleventh element has two digits
     ∷ point (append [] null) (inTop 30 4 10) 36 0
     ∷ point (append [] null) (inTop 30 4 10) 35 14
@@ -114,7 +114,7 @@ noRoom =
 
 abbrev pub numbersOf : List Point → List ℕ
 numbersOf [] = []
-numbersOf (p ∷ ps) = performed (p .call) (p .state) (room (p .size)) .number ∷ numbersOf ps
+numbersOf (p ∷ ps) = performed (p .call) (p .state) (blank (p .size)) .number ∷ numbersOf ps
 
 abbrev pub settledOf : List Point → List ℕ
 settledOf [] = []
@@ -130,7 +130,7 @@ calls (c ∷ cs) d = calls cs (performed c (d .state) (d .buffer) .left)
 
 -- from nothing used and nothing open; two documents need six words
 abbrev pub wrote : List Call → List ℕ
-wrote cs = let d = calls cs (desk (replicate 6 0) (room 20)) in take (used (d .state)) (d .buffer)
+wrote cs = let d = calls cs (desk (replicate 6 0) (blank 20)) in take (used (d .state)) (d .buffer)
 
 -- what is written: the length 5 at first, the true one when closed, and the types where bytes could lie otherwise
 unfoldable pub writtenPoints : List (List ℕ × List ℕ)
