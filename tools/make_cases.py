@@ -1,8 +1,8 @@
 #!/usr/bin/env python3
 """Makes what the vectors program replays.
 
-crates/vectors/stdin holds questions, then the list: a document a line with every answer about it (diff/README.md says
-the form). The answers come from document 01's rules (tools/rules.py) and, for the list, are held against those of the Rust.
+crates/vectors/stdin holds questions, sessions of the writer among them, then the list: a document a line with every answer about it (diff/README.md
+says the form). The answers come from document 01's rules (tools/rules.py, tools/writing.py) and, for the list, are held against those of the Rust.
 
 usage: tools/make_cases.py --check           the files are what the rules say; needs no Rust
        tools/make_cases.py ORACLE            asks the oracle program too, and writes the files where it agrees with the rules
@@ -12,9 +12,12 @@ import os
 import re
 import subprocess
 import sys
+from functools import cache
 
+import documents as making
 import rules
-from documents import NULL, bytes_to_try, doc, documents, element, keyed, scope_below
+import writing
+from documents import NULL, SCOPE, bytes_to_try, doc, element, keyed, nested, scope_below
 from questions import all_questions
 from rules import Refused
 
@@ -22,6 +25,15 @@ ROOT = os.path.join(os.path.dirname(os.path.abspath(__file__)), "..")
 
 
 # ---- a line of the list, by the rules
+
+
+@cache
+def documents():
+    """The documents of the list: those made as such, then those that sessions of the writer close."""
+    listed = dict(making.documents())
+    for d, asks in writing.written():
+        listed.setdefault(d, asks)
+    return list(listed.items())
 
 
 def words(*fields):
@@ -217,6 +229,48 @@ def try_lookups():
         assert sum(is_so(d, key) for d, key in gets) >= 12, is_so.__name__
 
 
+# the numbers that each call of the writer can return
+RETURNED = {call: {0, 13, 14, 15, 18} for call in (*writing.VALUES, *writing.NESTS)} | {"open": {0, 14, 18}, "close": {0, 18}}
+
+
+def try_sessions():
+    """Some session has each call return each number that it can; those worked out by hand are asked, and answered so."""
+    asked = all_questions()
+    for line, said in writing.WORKED.items():
+        assert asked[line] == said, line
+    returned = {call: set() for call in RETURNED}
+    for line in writing.sessions():
+        calls = [part.split(" ")[0] for part in line.split("; ")[1:] if not part.startswith("word ")]
+        for call, number in zip(calls, writing.replayed(line)[0], strict=True):
+            returned[call].add(number)
+    assert returned == RETURNED, returned
+    for line, numbers in writing.stated():
+        assert line in asked and writing.replayed(line)[0] == numbers, line
+
+
+def closed(*calls):
+    return writing.replayed(writing.session(2048, *calls))[1].closed()
+
+
+def read_back(d, e):
+    """A value's word, and the fields of the call that writes it."""
+    word, *content = rules.value_of(d, e)
+    if e.tag in rules.NUMBERS or word == "timestamp":
+        return word, *map(str, content)
+    subtype = [f"{content.pop(0):02x}"] if word == "binary" else []
+    return word, *subtype, *(writing.hexed(d[offset : offset + size]) for offset, size in zip(content[::2], content[1::2]))
+
+
+def try_written():
+    """Every type but code with scope has a call; each is read back as it was written; what 202 open leave is document 01's."""
+    tags = {tag for tag, _ in (writing.VALUES | writing.NESTS).values()}
+    assert tags == {*rules.FIXED, *rules.FRAMED} - {SCOPE}, tags
+    d = closed(*writing.every_type())
+    for e, (word, fields) in zip(rules.elements(d), writing.FIELDS.items()):
+        assert (e.key, *read_back(d, e)) == (word.encode(), word, *fields), word
+    assert closed(*writing.DEEPEST, *["close"] * 202) == nested(201)
+
+
 def files(lines):
     asked = all_questions()
     return {
@@ -243,6 +297,8 @@ def main():
     lines = [line(d, asks) for d, asks in documents()]
     try_documents(lines)
     try_lookups()
+    try_sessions()
+    try_written()
     made = files(confirm(lines, oracle) if oracle else lines)
     if not checking:
         for name, data in made.items():

@@ -1,11 +1,13 @@
 """Questions that no document of the list asks. To single leaves: short slices, texts and keys by themselves, every class behind every
-tag. At any place of a document: a step from any cursor, a value, a part by its name. The whole check of a few more documents.
+tag. At any place of a document: a step from any cursor, a value, a part by its name. The whole check of a few more documents. Sessions of
+the writer.
 
 Each is a line for the vectors program and the answer that document 01's rules give, as the program prints it.
 """
 import rules
 from documents import BATTERY, NULL, SAMPLED, TRY, bytes_to_try, doc, element, keyed, le, row_texts, scope_below, text
 from rules import FIXED, FRAMED, PARTS, Refused, admit, boolean, cstring, is_utf8, signed, unsigned, value_size
+from writing import replayed, sessions
 
 questions = {}
 
@@ -205,9 +207,25 @@ def check_questions():
         ask("strict", said_check(s, True), s)
 
 
+# ---- sessions of the writer
+
+
+def said_session(line):
+    """What the calls return, the used bytes, the whole buffer, and where the top is closed the whole check of it."""
+    numbers, writer = replayed(line)
+    said = f"gives{''.join(f' {n}' for n in numbers)}, used {writer.used} of {writer.buffer.hex()}"
+    d = writer.closed()
+    return f"{said}, {said_check(d, False)}" if d else said
+
+
+def session_questions():
+    for line in sessions():
+        questions.setdefault(line, said_session(line))
+
+
 GROUPS = (
     utf8_questions, cstring_questions, number_questions, length_questions, tag_questions, admission_questions, place_questions, part_questions,
-    check_questions,
+    check_questions, session_questions,
 )
 
 

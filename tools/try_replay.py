@@ -1,5 +1,6 @@
 #!/usr/bin/env python3
 """Tries the replay itself: in copies of the list's lines one field of one part is made wrong, and the vectors program must report just that part.
+In copies of a session of the writer one field is made another, and the program must print the answer that the rules then give, which is another too.
 
 usage: tools/try_replay.py VECTORS     the built program
 """
@@ -7,6 +8,8 @@ import subprocess
 import sys
 
 from make_cases import documents, line
+from questions import said_session
+from writing import every_type, needed, session
 
 EVERY = 40  # one document of the list in so many
 # how many fields of a part say what is asked: another key or tag might have the same answer, so these are made unreadable
@@ -34,17 +37,51 @@ def wrong_lines(text):
             yield "; ".join(parts[:i] + [bad] + parts[i + 1 :]), bad
 
 
-def main():
+def replay(lines):
+    return subprocess.run([sys.argv[1]], input="".join(f"{t}\n" for t in lines), capture_output=True, text=True, check=True).stdout.splitlines()
+
+
+def try_documents():
     lines, reports = [], []
     for d, asks in documents()[::EVERY]:
         for text, bad in wrong_lines(line(d, asks)):
             lines.append(text)
             reports.append(f"differs: {bad} of {d.hex()}")
-    said = subprocess.run([sys.argv[1]], input="".join(f"{t}\n" for t in lines), capture_output=True, text=True, check=True).stdout.splitlines()
+    said = replay(lines)
     missed = [r for r in reports if r not in set(said)]
     if said[:-1] != reports or not said[-1].endswith(f", {len(reports)} differ"):
         sys.exit("\n".join(["the replay did not report just the wrong parts", *missed[:5]]))
     print(f"the replay reports each of {len(reports)} wrong fields")
 
 
-main()
+def other(field):
+    """A field of a call with its last digit made another."""
+    return field[:-1] + f"{int(field[-1], 16) ^ 1:x}"
+
+
+def other_sessions(text):
+    """Copies with one less room, with one call left out, and with one field made another; keys inside the array, which are not looked at, are empty."""
+    room, *calls = text.split("; ")
+    yield "; ".join([f"write {int(room.split(' ')[1]) - 1}", *calls])
+    for i, call in enumerate(calls):
+        yield "; ".join([room, *calls[:i], *calls[i + 1 :]])
+        fields = call.split(" ")
+        for j in range(1, len(fields)):
+            if fields[j] != "-":
+                yield "; ".join([room, *calls[:i], " ".join(fields[:j] + [other(fields[j])] + fields[j + 1 :]), *calls[i + 1 :]])
+
+
+def try_sessions():
+    calls = every_type()
+    right = session(needed(*calls), *calls)
+    lines = list(other_sessions(right))
+    said = replay(lines)
+    for text, answered in zip(lines, said, strict=True):
+        answer = said_session(text)
+        if answered != f"{text} {answer}" or answer == said_session(right):
+            sys.exit(f"the replay of a changed session: {answered}")
+    print(f"the replay answers each of {len(lines)} changed sessions otherwise, as the rules do")
+
+
+try_documents()
+try_sessions()

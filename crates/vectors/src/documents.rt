@@ -57,7 +57,7 @@ fn answer_part(answer: &[u8], document: &[u8], progress: Progress) -> Progress {
 }
 
 // A part behind the `; ` in front of it; where no space follows, the whole, which begins with no word.
-fn behind_separator(part: &[u8]) -> &[u8] {
+pub fn behind_separator(part: &[u8]) -> &[u8] {
     if 2 <= part.len() {
         if part[1] == b' ' {
             return &part[2..];
@@ -106,12 +106,12 @@ fn replay_parts(parts: &[u8], document: &[u8], hex: &[u8], progress: Progress) -
 }
 
 // What stands before the parts: `document HEX`.
-fn head_of(line: &[u8]) -> &[u8] {
+pub fn head_of(line: &[u8]) -> &[u8] {
     let end = find(line, 0, b';');
     &line[0..end]
 }
 
-fn parts_of(line: &[u8]) -> &[u8] {
+pub fn parts_of(line: &[u8]) -> &[u8] {
     let end = find(line, 0, b';');
     &line[end..]
 }

@@ -1,5 +1,6 @@
 // Replays a list from standard input. A line that begins with `document ` is a document with its answers, which are
-// compared; any other line is a question, which is printed again with the answer behind it.
+// compared; one that begins with `write ` is a session of the writer, any other a question: these are printed again with
+// the answer behind them.
 mod documents;
 mod getters;
 mod lookups;
@@ -10,6 +11,7 @@ mod readings;
 mod steps;
 mod text;
 mod values;
+mod writing;
 
 ghost use Prim.Native.Nat.{_≤_};
 ghost use lib.ListN.{length};
@@ -21,12 +23,17 @@ use text::behind;
 use text::find;
 use text::say;
 use text::word_number;
+use writing::replay_session;
 
 fn replay_line(line: &[u8], progress: Progress) -> Progress {
     if (8 < line.len()) & (word_number(b"document", line) == 1) {
         return replay_document(line, progress);
     }
-    replay_question(line);
+    if word_number(b"write", line) == 1 {
+        replay_session(line);
+    } else {
+        replay_question(line);
+    }
     progress
 }
 
