@@ -1,7 +1,7 @@
 // Numbers, booleans and the types without a value, appended to lent state (document 01, "Writer and joining").
 ghost use mathlib.Core.Path.{_≡_};
 ghost use mathlib.Core.Bool.{true};
-ghost use mathlib.Core.List.{_++_};
+ghost use mathlib.Core.List.{[], _++_};
 ghost use Rattle.bson.specs.Grammar as grammar;
 ghost use Rattle.bson.specs.Value as value;
 ghost use Rattle.bson.specs.Writer as writer;
@@ -51,6 +51,14 @@ fn append_eight(out: &mut [u8], words: &mut [u32; 406], tag: u8, key: &[u8], n: 
         ≡ appending (now (words .entry)) (now (out .entry)) 0 tag (now (key .entry)) true (grammar.bytes64 n) ⌝ }
 {
     append_words(out, words, tag, key, n as usize, (n / 4294967296) as usize)
+}
+
+// Appends what has no bytes.
+fn append_nothing(out: &mut [u8], words: &mut [u32; 406], tag: u8, key: &[u8]) -> u8
+    ensures { λ r. ⌜ writer.written r (now (words .exit)) (now (out .exit))
+        ≡ appending (now (words .entry)) (now (out .entry)) 0 tag (now (key .entry)) true [] ⌝ }
+{
+    appending::append(out, words, 0, tag, key, true, b"", b"", b"", b"")
 }
 
 // Appends a double by its bits.
@@ -115,7 +123,7 @@ pub fn append_null(out: &mut [u8], words: &mut [u32; 406], key: &[u8]) -> u8
     ensures { λ r. ⌜ writer.written r (now (words .exit)) (now (out .exit))
         ≡ writer.performed (writer.append (now (key .entry)) value.null) (now (words .entry)) (now (out .entry)) ⌝ }
 {
-    appending::append(out, words, 0, 0x0A, key, true, b"", b"", b"", b"")
+    append_nothing(out, words, 0x0A, key)
 }
 
 // Appends an undefined.
@@ -123,7 +131,7 @@ pub fn append_undefined(out: &mut [u8], words: &mut [u32; 406], key: &[u8]) -> u
     ensures { λ r. ⌜ writer.written r (now (words .exit)) (now (out .exit))
         ≡ writer.performed (writer.append (now (key .entry)) value.undefined) (now (words .entry)) (now (out .entry)) ⌝ }
 {
-    appending::append(out, words, 0, 0x06, key, true, b"", b"", b"", b"")
+    append_nothing(out, words, 0x06, key)
 }
 
 // Appends a min key.
@@ -131,7 +139,7 @@ pub fn append_min_key(out: &mut [u8], words: &mut [u32; 406], key: &[u8]) -> u8
     ensures { λ r. ⌜ writer.written r (now (words .exit)) (now (out .exit))
         ≡ writer.performed (writer.append (now (key .entry)) value.minKey) (now (words .entry)) (now (out .entry)) ⌝ }
 {
-    appending::append(out, words, 0, 0xFF, key, true, b"", b"", b"", b"")
+    append_nothing(out, words, 0xFF, key)
 }
 
 // Appends a max key.
@@ -139,5 +147,5 @@ pub fn append_max_key(out: &mut [u8], words: &mut [u32; 406], key: &[u8]) -> u8
     ensures { λ r. ⌜ writer.written r (now (words .exit)) (now (out .exit))
         ≡ writer.performed (writer.append (now (key .entry)) value.maxKey) (now (words .entry)) (now (out .entry)) ⌝ }
 {
-    appending::append(out, words, 0, 0x7F, key, true, b"", b"", b"", b"")
+    append_nothing(out, words, 0x7F, key)
 }

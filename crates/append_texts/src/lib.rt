@@ -17,7 +17,8 @@ fn append_text(
     behind: &[u8],
 ) -> u8
     ensures { λ r. ⌜ writer.written r (now (words .exit)) (now (out .exit))
-        ≡ appending (now (words .entry)) (now (out .entry)) 0 tag (now (key .entry)) (utf8 (now (text .entry))) (grammar.stringBytes (now (text .entry)) ++ now (behind .entry)) ⌝ }
+        ≡ appending (now (words .entry)) (now (out .entry)) 0 tag (now (key .entry)) (utf8 (now (text .entry)))
+        (grammar.stringBytes (now (text .entry)) ++ now (behind .entry)) ⌝ }
 {
     let good = utf8::is_utf8(text);
     let size = encode::bytes32(text.len() + 1);
@@ -57,7 +58,8 @@ pub fn append_dbpointer(
     id: &[u8; 12],
 ) -> u8
     ensures { λ r. ⌜ writer.written r (now (words .exit)) (now (out .exit))
-        ≡ writer.performed (writer.append (now (key .entry)) (value.dbPointer (now (namespace .entry)) (now (id .entry)))) (now (words .entry)) (now (out .entry)) ⌝ }
+        ≡ writer.performed (writer.append (now (key .entry)) (value.dbPointer (now (namespace .entry)) (now (id .entry))))
+        (now (words .entry)) (now (out .entry)) ⌝ }
 {
     append_text(out, words, 0x0C, key, namespace, id)
 }
@@ -71,7 +73,8 @@ pub fn append_binary(
     contents: &[u8],
 ) -> u8
     ensures { λ r. ⌜ writer.written r (now (words .exit)) (now (out .exit))
-        ≡ writer.performed (writer.append (now (key .entry)) (value.binary subtype (now (contents .entry)))) (now (words .entry)) (now (out .entry)) ⌝ }
+        ≡ writer.performed (writer.append (now (key .entry)) (value.binary subtype (now (contents .entry))))
+        (now (words .entry)) (now (out .entry)) ⌝ }
 {
     let size = encode::bytes32(contents.len());
     if subtype == 2 {
@@ -102,7 +105,8 @@ pub fn append_regex(
     options: &[u8],
 ) -> u8
     ensures { λ r. ⌜ writer.written r (now (words .exit)) (now (out .exit))
-        ≡ writer.performed (writer.append (now (key .entry)) (value.regex (now (pattern .entry)) (now (options .entry)))) (now (words .entry)) (now (out .entry)) ⌝ }
+        ≡ writer.performed (writer.append (now (key .entry)) (value.regex (now (pattern .entry)) (now (options .entry))))
+        (now (words .entry)) (now (out .entry)) ⌝ }
 {
     let good = cstr::is_valid_cstr(pattern) & cstr::is_valid_cstr(options);
     appending::append(

@@ -57,7 +57,8 @@ fn put_element(
     s: &[u8],
 ) -> usize
     ensures { λ n. ⌜ paper.output (now (out .exit)) n ≡ paper.putTexts (paper.output (now (out .entry)) at)
-        ((tag ∷ []) ∷ writer.keyIn (saidKind kind) (now (key .entry)) ∷ (0 ∷ []) ∷ now (p .entry) ∷ now (q .entry) ∷ now (r .entry) ∷ now (s .entry) ∷ []) ⌝ }
+        ((tag ∷ []) ∷ writer.keyIn (saidKind kind) (now (key .entry)) ∷ (0 ∷ [])
+        ∷ now (p .entry) ∷ now (q .entry) ∷ now (r .entry) ∷ now (s .entry) ∷ []) ⌝ }
 {
     let first = [tag];
     let a = output::put_text(out, at, &first);
@@ -155,7 +156,8 @@ fn append_in(
 ) -> u8
     requires { ⌜ (room ≡ writer.room (length (now out))) × (writer.innermost (now words) room ≡ gives (saidKind kind)) ⌝ }
     ensures { λ n. ⌜ writer.written n (now (words .exit)) (now (out .exit))
-        ≡ appending (now (words .entry)) (now (out .entry)) more tag (now (key .entry)) good (now (p .entry) ++ (now (q .entry) ++ (now (r .entry) ++ now (s .entry)))) ⌝ }
+        ≡ appending (now (words .entry)) (now (out .entry)) more tag (now (key .entry)) good
+        (now (p .entry) ++ (now (q .entry) ++ (now (r .entry) ++ now (s .entry)))) ⌝ }
 {
     let n = refusal(
         words,
@@ -191,7 +193,8 @@ pub fn append(
     s: &[u8],
 ) -> u8
     ensures { λ n. ⌜ writer.written n (now (words .exit)) (now (out .exit))
-        ≡ appending (now (words .entry)) (now (out .entry)) more tag (now (key .entry)) good (now (p .entry) ++ (now (q .entry) ++ (now (r .entry) ++ now (s .entry)))) ⌝ }
+        ≡ appending (now (words .entry)) (now (out .entry)) more tag (now (key .entry)) good
+        (now (p .entry) ++ (now (q .entry) ++ (now (r .entry) ++ now (s .entry)))) ⌝ }
 {
     let room = writer_state::room_of(out.len());
     match writer_state::innermost(words, room) {

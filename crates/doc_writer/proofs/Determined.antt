@@ -6,8 +6,7 @@ use contract.Lifetimes.{Lfts}
 use borrow.Fn.Kinds.{Dens}
 use denote.Ref.{now}
 use Rattle.bson.specs.Writer as writer
-use Rattle.laws.proofs.Determined.{Determined, DeterminedBuf, written-same}
-use Rattle.doc_writer.specs.declared.DocWriter.{DocWriter}
+use Rattle.laws.proofs.Determined.{Determined, DeterminedBuf}
 use Rattle.doc_writer.specs.declared.Written.{Written}
 use Rattle.doc_writer.proofs.new.Reads as new-reads
 use Rattle.doc_writer.proofs.new.Kinds as new-kinds

@@ -72,7 +72,8 @@ pub fn append_regex(
     options: &[u8],
 ) -> Written
     ensures { λ r. ⌜ writer.written (r .number) (r .writer .words) (now (out .exit))
-        ≡ writer.performed (writer.append (now (key .entry)) (value.regex (now (pattern .entry)) (now (options .entry)))) (w .words) (now (out .entry)) ⌝ }
+        ≡ writer.performed (writer.append (now (key .entry)) (value.regex (now (pattern .entry)) (now (options .entry))))
+        (w .words) (now (out .entry)) ⌝ }
 {
     let mut words = w.words;
     let number = append_texts::append_regex(out, &mut words, key, pattern, options);
@@ -91,7 +92,8 @@ pub fn append_dbpointer(
     id: &[u8; 12],
 ) -> Written
     ensures { λ r. ⌜ writer.written (r .number) (r .writer .words) (now (out .exit))
-        ≡ writer.performed (writer.append (now (key .entry)) (value.dbPointer (now (namespace .entry)) (now (id .entry)))) (w .words) (now (out .entry)) ⌝ }
+        ≡ writer.performed (writer.append (now (key .entry)) (value.dbPointer (now (namespace .entry)) (now (id .entry))))
+        (w .words) (now (out .entry)) ⌝ }
 {
     let mut words = w.words;
     let number = append_texts::append_dbpointer(out, &mut words, key, namespace, id);

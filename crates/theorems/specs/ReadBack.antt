@@ -105,7 +105,8 @@ Stands buffer d unopened = d ≡ desk fresh buffer
 Stands buffer d (building o around) = depth (d .state) ≡ suc (length around)
 Stands buffer d (built t) = ReadsBack d t
 
--- "what the writer closes, begun fresh and each call given the buffer and the state that the one before left, reads back as exactly the elements given"
+-- "what the writer closes, begun fresh and each call given the buffer and the state that the one before left, reads back as exactly the elements
+-- given"
 abbrev pub WriterReadsBack : Type 0
 WriterReadsBack = (buffer : List ℕ) (calls : List Call) → Typed calls
     → Stands buffer (run calls (begin buffer) .left) (run calls (begin buffer) .tree)

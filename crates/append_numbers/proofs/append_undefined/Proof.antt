@@ -1,41 +1,19 @@
 -- `append_numbers::append_undefined` meets its contract: a tag and a key alone. Assumes nothing.
-use mathlib.Core.Path.{refl}
 use Rattle.bson.specs.Writer.{answer, performed}
 use Rattle.bson.specs.Grammar.{row}
 use Rattle.appending.specs.Refusal.{appending}
 use Rattle.append_numbers.proofs.append_undefined.Statement.{statement}
 use Rattle.append_numbers.proofs.append_undefined.Tie as tie
 
-slice-aggregate-append : tie.Need-slice-aggregate-append
-slice-aggregate-append c = refl
-
-slice-aggregate-append-2 : tie.Need-slice-aggregate-append-2
-slice-aggregate-append-2 c = refl
-
-slice-aggregate-append-3 : tie.Need-slice-aggregate-append-3
-slice-aggregate-append-3 c = refl
-
-slice-aggregate-append-4 : tie.Need-slice-aggregate-append-4
-slice-aggregate-append-4 c = refl
-
-append-requires : tie.Need-append-requires
-append-requires c κs = tt
+append-nothing-requires : tie.Need-append-nothing-requires
+append-nothing-requires c κs = tt
 
 same-length : tie.Need-same-length
-same-length c = c .before .before .append .kept .0
+same-length c = c .before .before .append-nothing .kept .0
 
 returns : tie.Need-returns
 unfolding performed answer row appending
-returns c = c .before .before .append .ensures
+returns c = c .before .before .append-nothing .ensures
 
 pub append-undefined-spec : {M : Type 1} → statement M
-append-undefined-spec =
-    tie.close
-    (tie.spec
-    slice-aggregate-append
-    slice-aggregate-append-2
-    slice-aggregate-append-3
-    slice-aggregate-append-4
-    append-requires
-    same-length
-    returns)
+append-undefined-spec = tie.close (tie.spec append-nothing-requires same-length returns)
