@@ -245,7 +245,7 @@ def every_type():
     return ["open", *values, *inner, "close"]
 
 
-DEEPEST = ["open", *[call("document", "")] * 201]  # 202 open: 1,210 bytes, and as many zeros
+DEEPEST = ["open", *[call("document", "")] * 201]  # 202 open: 1,210 bytes are used, and 202 zeros will be
 
 
 # ---- sessions worked out by hand: the whole answer, or what the calls return

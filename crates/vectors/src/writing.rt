@@ -1,13 +1,13 @@
 // Replays a session of the writer, `write ROOM; CALL; CALL; ..`: a buffer of bytes that are all EE, a fresh state, and the calls in order.
 // The line is printed again with what each call returned, the used bytes, the whole buffer, and where the top is closed the whole check of it.
 //
-// A call is a word and its fields; bytes are hexadecimal, a `-` names none:
+// A call is a word and its fields; bytes are hexadecimal, a `-` names none, and all other numbers but a subtype are decimal:
 //     open, close
 //     document, array, null, undefined, minkey, maxkey KEY
 //     boolean, int32, int64, datetime KEY N; double KEY BITS; timestamp KEY INCREMENT SECONDS
 //     string, code, symbol KEY TEXT; binary KEY SUBTYPE DATA; regex KEY PATTERN OPTIONS
 //     dbpointer KEY NAMESPACE ID; objectid KEY ID; decimal128 KEY BYTES
-// `word I N` is no call: it stores a word of the state.
+// `word I N` is no call: it stores a word of the state. A room has at most 2,048 bytes, a key 256, any other field 1,024.
 use crate::documents::behind_separator;
 use crate::documents::head_of;
 use crate::documents::parts_of;
@@ -98,7 +98,7 @@ fn append_number(which: usize, out: &mut [u8], w: DocWriter, key: &[u8], call: &
     }
 }
 
-// An id is the last field of its call.
+// The id, or the bits, are the last field of the call.
 fn append_id(
     which: usize,
     out: &mut [u8],
@@ -177,6 +177,7 @@ fn with_word(w: DocWriter, i: usize, n: u32) -> DocWriter {
     DocWriter { words }
 }
 
+// It does little itself: what stands beside so large arrays is slow to prove.
 fn replay_bytes(call: &[u8], out: &mut [u8], w: DocWriter) -> Written {
     let mut key = [0u8; 256];
     let mut first = [0u8; 1024];
@@ -209,6 +210,7 @@ fn replay_calls(calls: &[u8], out: &mut [u8]) -> DocWriter {
     w
 }
 
+// What the session leaves: the used bytes, the buffer, and the whole check of a top that is closed.
 fn say_left(out: &[u8], w: DocWriter) {
     let words = w.words;
     let used = words[0] as usize;
