@@ -2,3 +2,4 @@ pub mod Vectors
 pub mod Decided
 pub mod Report
 pub mod WriterPoints
+pub mod JoinPoints

@@ -16,7 +16,9 @@ pub mod Output
 pub mod Grammar
 pub mod Meaning
 pub mod Writer
+pub mod Join
 pub mod Report
 pub mod Vectors
 pub mod Decided
 pub mod WriterPoints
+pub mod JoinPoints

@@ -18,3 +18,4 @@ pub mod GrammarLaws
 pub mod WriterWords
 pub mod WriterLaws
 pub mod WriterRefusals
+pub mod JoinLaws
