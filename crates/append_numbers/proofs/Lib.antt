@@ -1,3 +1,2 @@
-pub mod Unsigned
 pub mod Words
 pub mod Determined

@@ -7,27 +7,6 @@ ghost use Rattle.bson.specs.Value as value;
 ghost use Rattle.bson.specs.Writer as writer;
 ghost use Rattle.appending.specs.Refusal.{appending};
 
-// The bits of a number, by two's complement.
-fn bits32(n: i32) -> u32
-    ensures { λ r. ⌜ r ≡ grammar.unsigned 0x8000_0000 n ⌝ }
-{
-    if 0 <= n {
-        n as u32
-    } else {
-        4294967295 - ((-1 - n) as u32)
-    }
-}
-
-fn bits64(n: i64) -> u64
-    ensures { λ r. ⌜ r ≡ grammar.unsigned 0x8000_0000_0000_0000 n ⌝ }
-{
-    if 0 <= n {
-        n as u64
-    } else {
-        18446744073709551615 - ((-1 - n) as u64)
-    }
-}
-
 // Appends two numbers of four bytes.
 fn append_words(
     out: &mut [u8],
@@ -84,7 +63,7 @@ pub fn append_int32(out: &mut [u8], words: &mut [u32; 406], key: &[u8], n: i32) 
     ensures { λ r. ⌜ writer.written r (now (words .exit)) (now (out .exit))
         ≡ writer.performed (writer.append (now (key .entry)) (value.int32 n)) (now (words .entry)) (now (out .entry)) ⌝ }
 {
-    let v = encode::bytes32(bits32(n) as usize);
+    let v = encode::bytes32(encode::bits32(n) as usize);
     appending::append(out, words, 0, 0x10, key, true, &v, b"", b"", b"")
 }
 
@@ -93,7 +72,7 @@ pub fn append_int64(out: &mut [u8], words: &mut [u32; 406], key: &[u8], n: i64) 
     ensures { λ r. ⌜ writer.written r (now (words .exit)) (now (out .exit))
         ≡ writer.performed (writer.append (now (key .entry)) (value.int64 n)) (now (words .entry)) (now (out .entry)) ⌝ }
 {
-    append_eight(out, words, 0x12, key, bits64(n))
+    append_eight(out, words, 0x12, key, encode::bits64(n))
 }
 
 // Appends a datetime, in milliseconds since 1970.
@@ -101,7 +80,7 @@ pub fn append_datetime(out: &mut [u8], words: &mut [u32; 406], key: &[u8], n: i6
     ensures { λ r. ⌜ writer.written r (now (words .exit)) (now (out .exit))
         ≡ writer.performed (writer.append (now (key .entry)) (value.dateTime n)) (now (words .entry)) (now (out .entry)) ⌝ }
 {
-    append_eight(out, words, 0x09, key, bits64(n))
+    append_eight(out, words, 0x09, key, encode::bits64(n))
 }
 
 // Appends a timestamp: the increment, then the seconds.

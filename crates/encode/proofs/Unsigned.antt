@@ -1,7 +1,7 @@
--- Two's complement: the bits of a number from its sign, by one law for every width. Assumes nothing.
+-- Two's complement: the bits of a number from its sign, by one law for every width (BSON 1.1, "Basic Types"). Assumes nothing.
 use Prim.Native.Nat.{ℕ, suc, _+_, _-_, _≤_, _^_}
-use mathlib.Core.Path.{_≡_, refl, ap, _∙_}
-use mathlib.Core.Bool.{true, false}
+use mathlib.Core.Path.{_≡_, refl, sym, ap, _∙_}
+use mathlib.Core.Bool.{true, false, true≢false}
 use native.Mathlib.Omega.{arith}
 use borrow.Author.Tests.{le-ltb, leb-false}
 use lib.Dec.{T, leb}
@@ -12,9 +12,6 @@ use mir.Val.{Fits, SFits, toZ, ofZ, hbits}
 use mir.ValLaws.{toZ-ofZ, half-full}
 use Rattle.bson.specs.Grammar.{unsigned}
 
-not-true : false ≡ true → ⊥
-not-true t = let e : _≡_ {A = ℕ} 0 1 = cc in omega arith
-
 not-below : (n : ℕ) → leb 0 n ≡ false → ⊥
 not-below n t = let h = leb-false 0 n t in omega arith
 
@@ -24,12 +21,12 @@ minus-one n = rw (le-ltb (suc n) 1 (omega arith)) (ap pos (omega arith))
 -- as it is where it is not negative
 casts : (w : Width) (z : ℤ) → SFits w z → leZ (pos 0) z ≡ true → T (nonNeg z) × Fits w (natAbs z)
 casts w (pos n) f t = (tt, record { fits = half-full w (f .sfits) })
-casts w (negsuc n) f t = absurd (not-true t)
+casts w (negsuc n) f t = absurd (true≢false (sym t))
 
 stays : (half : ℕ) (z : ℤ) → leZ (pos 0) z ≡ true → natAbs z ≡ unsigned half z
 unfolding unsigned
 stays half (pos n) t = refl
-stays half (negsuc n) t = absurd (not-true t)
+stays half (negsuc n) t = absurd (true≢false (sym t))
 
 -- else counted down from the greatest
 count : (z : ℤ) → leZ (pos 0) z ≡ false → negsuc 0 -ℤ z ≡ pos (mag z)

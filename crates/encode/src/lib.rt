@@ -1,4 +1,4 @@
-// A number as four bytes, least first: lengths, and the halves of longer numbers (BSON 1.1, "Basic Types").
+// Numbers as bytes and bits: four bytes, least first, of lengths and the halves of longer numbers; the bits of signed ones (BSON 1.1, "Basic Types").
 ghost use mathlib.Core.Path.{_≡_};
 ghost use Rattle.bson.specs.Grammar as grammar;
 
@@ -11,4 +11,25 @@ pub fn bytes32(n: usize) -> [u8; 4]
         (n / 65536 % 256) as u8,
         (n / 16777216 % 256) as u8,
     ]
+}
+
+// The bits of a signed number, by two's complement.
+pub fn bits32(n: i32) -> u32
+    ensures { λ r. ⌜ r ≡ grammar.unsigned 0x8000_0000 n ⌝ }
+{
+    if 0 <= n {
+        n as u32
+    } else {
+        4294967295 - ((-1 - n) as u32)
+    }
+}
+
+pub fn bits64(n: i64) -> u64
+    ensures { λ r. ⌜ r ≡ grammar.unsigned 0x8000_0000_0000_0000 n ⌝ }
+{
+    if 0 <= n {
+        n as u64
+    } else {
+        18446744073709551615 - ((-1 - n) as u64)
+    }
 }

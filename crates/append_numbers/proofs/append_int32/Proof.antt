@@ -5,7 +5,7 @@ use Rattle.bson.specs.Writer.{answer, performed}
 use Rattle.bson.specs.Grammar.{row, bytes32}
 use Rattle.appending.specs.Refusal.{appending}
 use Rattle.appending.proofs.Valued.{valued}
-use Rattle.append_numbers.proofs.Unsigned.{passed}
+use Rattle.encode.proofs.Unsigned.{passed}
 use Rattle.append_numbers.proofs.Words.{word}
 use borrow.Author.Needs.{needs}
 use Rattle.append_numbers.proofs.append_int32.Statement.{statement}

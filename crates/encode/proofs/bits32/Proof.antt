@@ -1,9 +1,9 @@
--- `append_numbers::bits32` meets its contract, by the laws of every width at 32. Assumes nothing.
+-- `encode::bits32` meets its contract, by the laws of every width at 32. Assumes nothing.
 use mathlib.Core.Path.{refl}
 use mir.Syntax.{w32}
-use Rattle.append_numbers.proofs.Unsigned.{positive-casts, positive-stays, negative-fits, negative-casts, negative-below, negative-down}
-use Rattle.append_numbers.proofs.bits32.Statement.{statement}
-use Rattle.append_numbers.proofs.bits32.Tie as tie
+use Rattle.encode.proofs.Unsigned.{positive-casts, positive-stays, negative-fits, negative-casts, negative-below, negative-down}
+use Rattle.encode.proofs.bits32.Statement.{statement}
+use Rattle.encode.proofs.bits32.Tie as tie
 
 cast-result : tie.Need-cast-result
 cast-result c = positive-casts w32 (c .before .args .n) (c .before .fits .n) (c .if1 .taken)
