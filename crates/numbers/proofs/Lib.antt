@@ -1,0 +1,4 @@
+pub mod Truth
+pub mod Wide
+pub mod Read
+pub mod Determined

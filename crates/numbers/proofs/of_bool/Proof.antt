@@ -1,0 +1,14 @@
+-- `numbers::of_bool` meets its contract: its byte. Assumes nothing.
+use borrow.Author.Needs.{needs}
+use Rattle.numbers.proofs.Truth.{byte-truth}
+use Rattle.numbers.proofs.of_bool.Statement.{statement}
+use Rattle.numbers.proofs.of_bool.Tie as tie
+
+cast-result : tie.Need-cast-result
+cast-result c = search needs
+
+returns : tie.Need-returns
+returns c = byte-truth (c .args .b)
+
+pub of-bool-spec : {M : Type 1} → statement M
+of-bool-spec = tie.close (tie.spec cast-result returns)
