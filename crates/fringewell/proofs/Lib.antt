@@ -1,0 +1,2 @@
+pub mod Through
+pub mod Determined

@@ -1,0 +1,42 @@
+-- How an answer passes the boundary, as the code meets it: first the call, then its numbers (document 01, module 8). Assumes nothing.
+use Prim.Native.Nat.{ℕ}
+use mathlib.Core.Path.{_≡_, ap, _∙_}
+use mathlib.Core.List.{List}
+use lib.IntN.{ℤ}
+use mir.Syntax.{Width}
+use mir.Val.{SFits, toZ, ofZ}
+use mir.ValLaws.{toZ-ofZ}
+use Rattle.bson.specs.Join as paper
+use Rattle.bson.specs.Step.{Cursor, step, after}
+use Rattle.bson.specs.Writer as writer
+use Rattle.iter.specs.Said.{said, behind, Answers}
+use Rattle.iter.specs.declared.Step.{Step}
+use Rattle.numbers.specs.Numbers.{joined, stepped, writtenBy}
+use Rattle.numbers.specs.declared.JoinedNumbers.{JoinedNumbers}
+use Rattle.numbers.specs.declared.StepNumbers.{StepNumbers}
+use Rattle.numbers.specs.declared.WrittenNumbers.{WrittenNumbers}
+use Rattle.fringewell.specs.Left.{steps, left, joins, leaves, performs}
+
+-- an answer that says a, in the numbers of what it says
+pub through : {A N : Type 0} (numbers : A → N) {n : N} {x a : A} → x ≡ a → n ≡ numbers x → n ≡ numbers a
+through numbers q e = e ∙ ap numbers q
+
+pub step-through : (s : List ℕ) (c : Cursor) (r : Step) (n : StepNumbers) → Answers r c (step s c) → n ≡ stepped (said r) (behind r) → n ≡ steps s c
+step-through s c r n (a, b) e = rw (e, a, b)
+
+pub join-through : (first second buffer exit : List ℕ) (o : paper.Outcome) (n : JoinedNumbers) → paper.joined o exit ≡ paper.join first second buffer
+    → n ≡ joined o → left n exit ≡ joins first second buffer
+join-through first second buffer exit o n q e = rw (e, ← q)
+
+pub performed-through : (c : writer.Call) (state exit-state buffer exit : List ℕ) (number : ℕ) (n : WrittenNumbers)
+    → writer.written number exit-state exit ≡ writer.performed c state buffer → n ≡ writtenBy number exit-state
+    → leaves n exit-state exit ≡ performs c state buffer
+unfolding performs
+performed-through c state exit-state buffer exit number n q e = rw (e, ← q)
+
+-- the same of a signed number, which the code reads from its bits
+pub signed-through : (w : Width) (z : ℤ) (f : SFits w z) (c : ℤ → writer.Call) (state exit-state buffer exit : List ℕ) (number : ℕ) (n : WrittenNumbers)
+    → writer.written number exit-state exit ≡ writer.performed (c (toZ w (ofZ w z))) state buffer → n ≡ writtenBy number exit-state
+    → leaves n exit-state exit ≡ performs (c z) state buffer
+signed-through w z f c state exit-state buffer exit number n q e =
+    performed-through (c z) state exit-state buffer exit number n (q ∙ ap (λ (x : ℤ). writer.performed (c x) state buffer) (toZ-ofZ w z f)) e

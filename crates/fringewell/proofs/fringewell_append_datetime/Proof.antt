@@ -1,0 +1,27 @@
+-- `fringewell::fringewell_append_datetime` meets its contract: the call, then its numbers. Assumes nothing.
+use lib.IntN.{ℤ}
+use mir.Syntax.{w64}
+use Rattle.bson.specs.Value.{dateTime}
+use Rattle.bson.specs.Writer.{append}
+use Rattle.fringewell.proofs.Through.{signed-through}
+use Rattle.fringewell.proofs.fringewell_append_datetime.Statement.{statement}
+use Rattle.fringewell.proofs.fringewell_append_datetime.Tie as tie
+
+append-datetime-requires : tie.Need-append-datetime-requires
+append-datetime-requires c κs = tt
+
+of-written-requires : tie.Need-of-written-requires
+of-written-requires c κs = tt
+
+same-length : tie.Need-same-length
+same-length c = c .before .before .before .before .append-datetime .kept .0
+
+returns : tie.Need-returns
+returns c =
+    let a = c .before .before .before .before in
+    let s = a .before .before .before .before .before in
+    signed-through w64 (s .args .n) (s .fits .n) (λ (n : ℤ). append (s .args .key .now) (dateTime n)) _ _ _ _ _ _ (a .append-datetime .ensures) (c .of-written .ensures)
+
+pub fringewell-append-datetime-spec : {M : Type 1} → statement M
+fringewell-append-datetime-spec =
+    tie.close (tie.spec append-datetime-requires of-written-requires same-length returns)

@@ -1,0 +1,20 @@
+-- `fringewell::fringewell_append_decimal128` meets its contract: the call, then its numbers. Assumes nothing.
+use Rattle.fringewell.proofs.Through.{performed-through}
+use Rattle.fringewell.proofs.fringewell_append_decimal128.Statement.{statement}
+use Rattle.fringewell.proofs.fringewell_append_decimal128.Tie as tie
+
+append-decimal128-requires : tie.Need-append-decimal128-requires
+append-decimal128-requires c κs = tt
+
+of-written-requires : tie.Need-of-written-requires
+of-written-requires c κs = tt
+
+same-length : tie.Need-same-length
+same-length c = c .before .before .before .before .append-decimal128 .kept .0
+
+returns : tie.Need-returns
+returns c = performed-through _ _ _ _ _ _ _ (c .before .before .before .before .append-decimal128 .ensures) (c .of-written .ensures)
+
+pub fringewell-append-decimal128-spec : {M : Type 1} → statement M
+fringewell-append-decimal128-spec =
+    tie.close (tie.spec append-decimal128-requires of-written-requires same-length returns)

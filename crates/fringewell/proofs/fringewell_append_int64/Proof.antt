@@ -1,0 +1,27 @@
+-- `fringewell::fringewell_append_int64` meets its contract: the call, then its numbers. Assumes nothing.
+use lib.IntN.{ℤ}
+use mir.Syntax.{w64}
+use Rattle.bson.specs.Value.{int64}
+use Rattle.bson.specs.Writer.{append}
+use Rattle.fringewell.proofs.Through.{signed-through}
+use Rattle.fringewell.proofs.fringewell_append_int64.Statement.{statement}
+use Rattle.fringewell.proofs.fringewell_append_int64.Tie as tie
+
+append-int64-requires : tie.Need-append-int64-requires
+append-int64-requires c κs = tt
+
+of-written-requires : tie.Need-of-written-requires
+of-written-requires c κs = tt
+
+same-length : tie.Need-same-length
+same-length c = c .before .before .before .before .append-int64 .kept .0
+
+returns : tie.Need-returns
+returns c =
+    let a = c .before .before .before .before in
+    let s = a .before .before .before .before .before in
+    signed-through w64 (s .args .n) (s .fits .n) (λ (n : ℤ). append (s .args .key .now) (int64 n)) _ _ _ _ _ _ (a .append-int64 .ensures) (c .of-written .ensures)
+
+pub fringewell-append-int64-spec : {M : Type 1} → statement M
+fringewell-append-int64-spec =
+    tie.close (tie.spec append-int64-requires of-written-requires same-length returns)

@@ -1,0 +1,12 @@
+-- `fringewell::fringewell_writer_new` meets its contract: the words are the definition. Assumes nothing.
+use mathlib.Core.Path.{refl}
+use Rattle.bson.specs.Writer.{fresh}
+use Rattle.fringewell.proofs.fringewell_writer_new.Statement.{statement}
+use Rattle.fringewell.proofs.fringewell_writer_new.Tie as tie
+
+returns : tie.Need-returns
+unfolding fresh
+returns c = refl
+
+pub fringewell-writer-new-spec : {M : Type 1} → statement M
+fringewell-writer-new-spec = tie.close (tie.spec returns)

@@ -1,0 +1,31 @@
+-- What the calls answer in numbers where they leave more than an answer: a cursor, a lent buffer, a lent state (document 01, "Admission and one
+-- step" and "Writer and joining").
+use Prim.Native.Nat.{ℕ}
+use mathlib.Core.List.{List}
+use Rattle.bson.specs.Join.{join}
+use Rattle.bson.specs.Step.{Cursor, step, after}
+use Rattle.bson.specs.Writer.{State, Desk, desk, Call, performed}
+use Rattle.numbers.specs.Numbers.{joined, stepped, writtenBy}
+use Rattle.numbers.specs.declared.JoinedNumbers.{JoinedNumbers}
+use Rattle.numbers.specs.declared.StepNumbers.{StepNumbers}
+use Rattle.numbers.specs.declared.WrittenNumbers.{WrittenNumbers}
+
+-- a step, and the cursor behind it
+abbrev pub steps : List ℕ → Cursor → StepNumbers
+steps s c = stepped (step s c) (after c (step s c))
+
+-- an answer, and the buffer that is left
+abbrev pub left : JoinedNumbers → List ℕ → JoinedNumbers × List ℕ
+left answer buffer = (answer, buffer)
+
+abbrev pub joins : List ℕ → List ℕ → List ℕ → JoinedNumbers × List ℕ
+joins first second buffer = left (joined (join first second buffer .outcome)) (join first second buffer .left)
+
+-- an answer, and the state and the buffer that are left
+abbrev pub leaves : WrittenNumbers → State → List ℕ → WrittenNumbers × Desk
+leaves answer state buffer = (answer, desk state buffer)
+
+unfoldable pub performs : Call → State → List ℕ → WrittenNumbers × Desk
+performs call state buffer =
+    let w = performed call state buffer in
+    (writtenBy (w .number) (w .left .state), w .left)

@@ -1,0 +1,415 @@
+// The functions that the C service calls: byte slices and numbers in, structs of numbers out (document 01, module 8). Each is one call of
+// what it is named for; what it answers in numbers is in `numbers`, and include/fringewell.h says it to C.
+ghost use mathlib.Core.Path.{_≡_};
+ghost use mathlib.Core.Bool.{true, false};
+ghost use Rattle.bson.specs.Check.{check};
+ghost use Rattle.bson.specs.Grammar as grammar;
+ghost use Rattle.bson.specs.Lookup.{get, getWith, isEmpty};
+ghost use Rattle.bson.specs.Step.{cursor};
+ghost use Rattle.bson.specs.Value as value;
+ghost use Rattle.bson.specs.Writer as writer;
+ghost use Rattle.numbers.specs.Numbers.{verdict, emptiness, found, valueRead};
+ghost use Rattle.fringewell.specs.Left.{steps, left, joins, leaves, performs};
+use iter::Cursor;
+use numbers::FoundNumbers;
+use numbers::JoinedNumbers;
+use numbers::StepNumbers;
+use numbers::ValueNumbers;
+use numbers::VerdictNumbers;
+use numbers::WrittenNumbers;
+
+// The plain check.
+#[no_mangle]
+pub extern "C" fn fringewell_check(document: &[u8]) -> VerdictNumbers
+    ensures { λ r. ⌜ r ≡ verdict (check false (now (document .entry))) ⌝ }
+{
+    numbers::of_verdict(whole::check(document))
+}
+
+// The strict check.
+#[no_mangle]
+pub extern "C" fn fringewell_check_strict(document: &[u8]) -> VerdictNumbers
+    ensures { λ r. ⌜ r ≡ verdict (check true (now (document .entry))) ⌝ }
+{
+    numbers::of_verdict(whole::check_strict(document))
+}
+
+// Admission, and whether the document has no element.
+#[no_mangle]
+pub extern "C" fn fringewell_is_empty(document: &[u8]) -> VerdictNumbers
+    ensures { λ r. ⌜ r ≡ emptiness (isEmpty (now (document .entry))) ⌝ }
+{
+    numbers::of_empty(document::is_empty(document))
+}
+
+// The first element of a key.
+#[no_mangle]
+pub extern "C" fn fringewell_lookup(document: &[u8], key: &[u8]) -> FoundNumbers
+    ensures { λ r. ⌜ r ≡ found (get (now (document .entry)) (now (key .entry))) ⌝ }
+{
+    numbers::of_found(document::get_element(document, key))
+}
+
+// The first element of a key, whose value must have this tag.
+#[no_mangle]
+pub extern "C" fn fringewell_lookup_typed(document: &[u8], key: &[u8], tag: u8) -> FoundNumbers
+    ensures { λ r. ⌜ r ≡ found (getWith (now (document .entry)) (now (key .entry)) tag) ⌝ }
+{
+    numbers::of_found(document::get_with(document, key, tag))
+}
+
+// The step at a cursor, and the cursor behind it.
+#[no_mangle]
+pub extern "C" fn fringewell_step(document: &[u8], offset: usize, ended: bool) -> StepNumbers
+    ensures { λ r. ⌜ r ≡ steps (now (document .entry)) (cursor offset ended) ⌝ }
+{
+    numbers::of_step(iter::next(document, Cursor { offset, ended }))
+}
+
+// The value of the element at a place.
+#[no_mangle]
+pub extern "C" fn fringewell_read(document: &[u8], place: usize) -> ValueNumbers
+    ensures { λ r. ⌜ r ≡ valueRead (value.readAt (now (document .entry)) place) ⌝ }
+{
+    numbers::of_reading(reading::read_at(document, place))
+}
+
+// Both documents as one, at the front of a lent buffer.
+#[no_mangle]
+pub extern "C" fn fringewell_join(first: &[u8], second: &[u8], out: &mut [u8]) -> JoinedNumbers
+    ensures { λ r. ⌜ left r (now (out .exit)) ≡ joins (now (first .entry)) (now (second .entry)) (now (out .entry)) ⌝ }
+{
+    numbers::of_joined(join::join(out, first, second))
+}
+
+// The writer's state, which C lends: 406 words.
+#[repr(C)]
+pub struct Writer {
+    pub words: [u32; 406],
+}
+
+// A fresh state: nothing used, nothing open.
+#[no_mangle]
+pub extern "C" fn fringewell_writer_new() -> Writer
+    ensures { λ r. ⌜ r .words ≡ writer.fresh ⌝ }
+{
+    Writer { words: [0; 406] }
+}
+
+// Opens the top.
+#[no_mangle]
+pub extern "C" fn fringewell_writer_open(words: &mut [u32; 406], out: &mut [u8]) -> WrittenNumbers
+    ensures { λ r. ⌜ leaves r (now (words .exit)) (now (out .exit))
+        ≡ performs (writer.openTop) (now (words .entry)) (now (out .entry)) ⌝ }
+{
+    let number = nesting::open_top(out, words);
+    numbers::of_written(number, words)
+}
+
+// Opens a document in the innermost.
+#[no_mangle]
+pub extern "C" fn fringewell_writer_open_document(
+    words: &mut [u32; 406],
+    out: &mut [u8],
+    key: &[u8],
+) -> WrittenNumbers
+    ensures { λ r. ⌜ leaves r (now (words .exit)) (now (out .exit))
+        ≡ performs (writer.openNest grammar.document (now (key .entry))) (now (words .entry)) (now (out .entry)) ⌝ }
+{
+    let number = nesting::open_document(out, words, key);
+    numbers::of_written(number, words)
+}
+
+// Opens an array in the innermost.
+#[no_mangle]
+pub extern "C" fn fringewell_writer_open_array(
+    words: &mut [u32; 406],
+    out: &mut [u8],
+    key: &[u8],
+) -> WrittenNumbers
+    ensures { λ r. ⌜ leaves r (now (words .exit)) (now (out .exit))
+        ≡ performs (writer.openNest grammar.array (now (key .entry))) (now (words .entry)) (now (out .entry)) ⌝ }
+{
+    let number = nesting::open_array(out, words, key);
+    numbers::of_written(number, words)
+}
+
+// Closes the innermost.
+#[no_mangle]
+pub extern "C" fn fringewell_writer_close(words: &mut [u32; 406], out: &mut [u8]) -> WrittenNumbers
+    ensures { λ r. ⌜ leaves r (now (words .exit)) (now (out .exit))
+        ≡ performs (writer.close) (now (words .entry)) (now (out .entry)) ⌝ }
+{
+    let number = nesting::close(out, words);
+    numbers::of_written(number, words)
+}
+
+// Appends a double by its bits.
+#[no_mangle]
+pub extern "C" fn fringewell_append_double(
+    words: &mut [u32; 406],
+    out: &mut [u8],
+    key: &[u8],
+    bits: u64,
+) -> WrittenNumbers
+    ensures { λ r. ⌜ leaves r (now (words .exit)) (now (out .exit))
+        ≡ performs (writer.append (now (key .entry)) (value.double bits)) (now (words .entry)) (now (out .entry)) ⌝ }
+{
+    let number = append_numbers::append_double(out, words, key, bits);
+    numbers::of_written(number, words)
+}
+
+// Appends a boolean.
+#[no_mangle]
+pub extern "C" fn fringewell_append_bool(
+    words: &mut [u32; 406],
+    out: &mut [u8],
+    key: &[u8],
+    b: bool,
+) -> WrittenNumbers
+    ensures { λ r. ⌜ leaves r (now (words .exit)) (now (out .exit))
+        ≡ performs (writer.append (now (key .entry)) (value.boolean b)) (now (words .entry)) (now (out .entry)) ⌝ }
+{
+    let number = append_numbers::append_bool(out, words, key, b);
+    numbers::of_written(number, words)
+}
+
+// Appends an int32.
+#[no_mangle]
+pub extern "C" fn fringewell_append_int32(
+    words: &mut [u32; 406],
+    out: &mut [u8],
+    key: &[u8],
+    n: i32,
+) -> WrittenNumbers
+    ensures { λ r. ⌜ leaves r (now (words .exit)) (now (out .exit))
+        ≡ performs (writer.append (now (key .entry)) (value.int32 n)) (now (words .entry)) (now (out .entry)) ⌝ }
+{
+    let number = append_numbers::append_int32(out, words, key, n);
+    numbers::of_written(number, words)
+}
+
+// Appends an int64.
+#[no_mangle]
+pub extern "C" fn fringewell_append_int64(
+    words: &mut [u32; 406],
+    out: &mut [u8],
+    key: &[u8],
+    n: i64,
+) -> WrittenNumbers
+    ensures { λ r. ⌜ leaves r (now (words .exit)) (now (out .exit))
+        ≡ performs (writer.append (now (key .entry)) (value.int64 n)) (now (words .entry)) (now (out .entry)) ⌝ }
+{
+    let number = append_numbers::append_int64(out, words, key, n);
+    numbers::of_written(number, words)
+}
+
+// Appends a datetime, in milliseconds since 1970.
+#[no_mangle]
+pub extern "C" fn fringewell_append_datetime(
+    words: &mut [u32; 406],
+    out: &mut [u8],
+    key: &[u8],
+    n: i64,
+) -> WrittenNumbers
+    ensures { λ r. ⌜ leaves r (now (words .exit)) (now (out .exit))
+        ≡ performs (writer.append (now (key .entry)) (value.dateTime n)) (now (words .entry)) (now (out .entry)) ⌝ }
+{
+    let number = append_numbers::append_datetime(out, words, key, n);
+    numbers::of_written(number, words)
+}
+
+// Appends a timestamp.
+#[no_mangle]
+pub extern "C" fn fringewell_append_timestamp(
+    words: &mut [u32; 406],
+    out: &mut [u8],
+    key: &[u8],
+    increment: u32,
+    seconds: u32,
+) -> WrittenNumbers
+    ensures { λ r. ⌜ leaves r (now (words .exit)) (now (out .exit))
+        ≡ performs (writer.append (now (key .entry)) (value.timestamp increment seconds)) (now (words .entry)) (now (out .entry)) ⌝ }
+{
+    let number = append_numbers::append_timestamp(out, words, key, increment, seconds);
+    numbers::of_written(number, words)
+}
+
+// Appends a null.
+#[no_mangle]
+pub extern "C" fn fringewell_append_null(
+    words: &mut [u32; 406],
+    out: &mut [u8],
+    key: &[u8],
+) -> WrittenNumbers
+    ensures { λ r. ⌜ leaves r (now (words .exit)) (now (out .exit))
+        ≡ performs (writer.append (now (key .entry)) value.null) (now (words .entry)) (now (out .entry)) ⌝ }
+{
+    let number = append_numbers::append_null(out, words, key);
+    numbers::of_written(number, words)
+}
+
+// Appends an undefined.
+#[no_mangle]
+pub extern "C" fn fringewell_append_undefined(
+    words: &mut [u32; 406],
+    out: &mut [u8],
+    key: &[u8],
+) -> WrittenNumbers
+    ensures { λ r. ⌜ leaves r (now (words .exit)) (now (out .exit))
+        ≡ performs (writer.append (now (key .entry)) value.undefined) (now (words .entry)) (now (out .entry)) ⌝ }
+{
+    let number = append_numbers::append_undefined(out, words, key);
+    numbers::of_written(number, words)
+}
+
+// Appends a min key.
+#[no_mangle]
+pub extern "C" fn fringewell_append_min_key(
+    words: &mut [u32; 406],
+    out: &mut [u8],
+    key: &[u8],
+) -> WrittenNumbers
+    ensures { λ r. ⌜ leaves r (now (words .exit)) (now (out .exit))
+        ≡ performs (writer.append (now (key .entry)) value.minKey) (now (words .entry)) (now (out .entry)) ⌝ }
+{
+    let number = append_numbers::append_min_key(out, words, key);
+    numbers::of_written(number, words)
+}
+
+// Appends a max key.
+#[no_mangle]
+pub extern "C" fn fringewell_append_max_key(
+    words: &mut [u32; 406],
+    out: &mut [u8],
+    key: &[u8],
+) -> WrittenNumbers
+    ensures { λ r. ⌜ leaves r (now (words .exit)) (now (out .exit))
+        ≡ performs (writer.append (now (key .entry)) value.maxKey) (now (words .entry)) (now (out .entry)) ⌝ }
+{
+    let number = append_numbers::append_max_key(out, words, key);
+    numbers::of_written(number, words)
+}
+
+// Appends a string.
+#[no_mangle]
+pub extern "C" fn fringewell_append_string(
+    words: &mut [u32; 406],
+    out: &mut [u8],
+    key: &[u8],
+    text: &[u8],
+) -> WrittenNumbers
+    ensures { λ r. ⌜ leaves r (now (words .exit)) (now (out .exit))
+        ≡ performs (writer.append (now (key .entry)) (value.string (now (text .entry)))) (now (words .entry)) (now (out .entry)) ⌝ }
+{
+    let number = append_texts::append_string(out, words, key, text);
+    numbers::of_written(number, words)
+}
+
+// Appends JavaScript code.
+#[no_mangle]
+pub extern "C" fn fringewell_append_code(
+    words: &mut [u32; 406],
+    out: &mut [u8],
+    key: &[u8],
+    text: &[u8],
+) -> WrittenNumbers
+    ensures { λ r. ⌜ leaves r (now (words .exit)) (now (out .exit))
+        ≡ performs (writer.append (now (key .entry)) (value.code (now (text .entry)))) (now (words .entry)) (now (out .entry)) ⌝ }
+{
+    let number = append_texts::append_code(out, words, key, text);
+    numbers::of_written(number, words)
+}
+
+// Appends a symbol.
+#[no_mangle]
+pub extern "C" fn fringewell_append_symbol(
+    words: &mut [u32; 406],
+    out: &mut [u8],
+    key: &[u8],
+    text: &[u8],
+) -> WrittenNumbers
+    ensures { λ r. ⌜ leaves r (now (words .exit)) (now (out .exit))
+        ≡ performs (writer.append (now (key .entry)) (value.symbol (now (text .entry)))) (now (words .entry)) (now (out .entry)) ⌝ }
+{
+    let number = append_texts::append_symbol(out, words, key, text);
+    numbers::of_written(number, words)
+}
+
+// Appends binary data.
+#[no_mangle]
+pub extern "C" fn fringewell_append_binary(
+    words: &mut [u32; 406],
+    out: &mut [u8],
+    key: &[u8],
+    subtype: u8,
+    contents: &[u8],
+) -> WrittenNumbers
+    ensures { λ r. ⌜ leaves r (now (words .exit)) (now (out .exit))
+        ≡ performs (writer.append (now (key .entry)) (value.binary subtype (now (contents .entry)))) (now (words .entry)) (now (out .entry)) ⌝ }
+{
+    let number = append_texts::append_binary(out, words, key, subtype, contents);
+    numbers::of_written(number, words)
+}
+
+// Appends a regular expression.
+#[no_mangle]
+pub extern "C" fn fringewell_append_regex(
+    words: &mut [u32; 406],
+    out: &mut [u8],
+    key: &[u8],
+    pattern: &[u8],
+    options: &[u8],
+) -> WrittenNumbers
+    ensures { λ r. ⌜ leaves r (now (words .exit)) (now (out .exit))
+        ≡ performs (writer.append (now (key .entry)) (value.regex (now (pattern .entry)) (now (options .entry)))) (now (words .entry)) (now (out .entry)) ⌝ }
+{
+    let number = append_texts::append_regex(out, words, key, pattern, options);
+    numbers::of_written(number, words)
+}
+
+// Appends a DBPointer.
+#[no_mangle]
+pub extern "C" fn fringewell_append_dbpointer(
+    words: &mut [u32; 406],
+    out: &mut [u8],
+    key: &[u8],
+    namespace: &[u8],
+    id: &[u8; 12],
+) -> WrittenNumbers
+    ensures { λ r. ⌜ leaves r (now (words .exit)) (now (out .exit))
+        ≡ performs (writer.append (now (key .entry)) (value.dbPointer (now (namespace .entry)) (now (id .entry)))) (now (words .entry)) (now (out .entry)) ⌝ }
+{
+    let number = append_texts::append_dbpointer(out, words, key, namespace, id);
+    numbers::of_written(number, words)
+}
+
+// Appends an ObjectId.
+#[no_mangle]
+pub extern "C" fn fringewell_append_object_id(
+    words: &mut [u32; 406],
+    out: &mut [u8],
+    key: &[u8],
+    id: &[u8; 12],
+) -> WrittenNumbers
+    ensures { λ r. ⌜ leaves r (now (words .exit)) (now (out .exit))
+        ≡ performs (writer.append (now (key .entry)) (value.objectId (now (id .entry)))) (now (words .entry)) (now (out .entry)) ⌝ }
+{
+    let number = append_texts::append_object_id(out, words, key, id);
+    numbers::of_written(number, words)
+}
+
+// Appends a decimal128 by its bits.
+#[no_mangle]
+pub extern "C" fn fringewell_append_decimal128(
+    words: &mut [u32; 406],
+    out: &mut [u8],
+    key: &[u8],
+    bits: &[u8; 16],
+) -> WrittenNumbers
+    ensures { λ r. ⌜ leaves r (now (words .exit)) (now (out .exit))
+        ≡ performs (writer.append (now (key .entry)) (value.decimal128 (now (bits .entry)))) (now (words .entry)) (now (out .entry)) ⌝ }
+{
+    let number = append_texts::append_decimal128(out, words, key, bits);
+    numbers::of_written(number, words)
+}
