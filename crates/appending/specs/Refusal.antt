@@ -1,4 +1,4 @@
--- The refusal of an element as a number, and an element appended, as the inner functions answer.
+-- The refusal of an element as a number, and an element appended, as the inner functions answer (document 01, "Writer and joining").
 use Prim.Native.Nat.{ℕ, _+_}
 use mathlib.Core.List.{List}
 use mathlib.Core.Bool.{Bool, cond, _&&_}

@@ -1,4 +1,4 @@
--- What each case of an answer says on paper.
+-- What each case of an answer says on paper (document 01, "Values").
 use mathlib.Core.Bool.{Bool}
 use Rattle.bson.specs.Answer.{Answer, gives, refuses}
 use Rattle.bson.specs.Lookup as paper

@@ -1,4 +1,5 @@
--- What each case of `PatternOptions` says on paper: the two parts, or a refusal by its number at no place of its own.
+-- What each case of `PatternOptions` says on paper: the two parts, or a refusal by its number at no place of its own (document 01,
+-- "Admission and one step").
 use Prim.Native.Nat.{_+_}
 use Rattle.bson.specs.Answer.{Answer, gives, refuses}
 use Rattle.bson.specs.Bytes.{Part, part}

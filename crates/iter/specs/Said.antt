@@ -1,4 +1,4 @@
--- What cursors, elements and the cases of an answer say on paper, and the cursor behind a step.
+-- What cursors, elements and the cases of an answer say on paper, and the cursor behind a step (document 01, "Admission and one step").
 use mathlib.Core.Path.{_≡_}
 use Rattle.bson.specs.Answer.{Answer, gives, refuses}
 use Rattle.bson.specs.Step as paper

@@ -1,4 +1,5 @@
--- An element opened whose tag and mark are given, and a state with one document more, as the inner functions answer.
+-- An element opened whose tag and mark are given, and a state with one document more, as the inner functions answer (document 01, "Writer
+-- and joining").
 use Prim.Native.Nat.{ℕ, _+_}
 use mathlib.Core.List.{List}
 use mathlib.Core.Bool.{true}

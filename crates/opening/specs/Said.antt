@@ -1,4 +1,4 @@
--- What each case of an answer says on paper.
+-- What each case of an answer says on paper (document 01, "The whole check").
 use Rattle.bson.specs.Level as paper
 use Rattle.part.specs.Said as part
 use Rattle.opening.specs.declared.Opening.{Opening}

@@ -1,4 +1,4 @@
--- What a part of the code says on paper: the same offset and size.
+-- What a part of the code says on paper: the same offset and size (document 01, "What must change shape").
 use Rattle.bson.specs.Bytes as paper
 use Rattle.part.specs.declared.Part.{Part}
 

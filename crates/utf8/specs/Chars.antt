@@ -1,4 +1,4 @@
--- Chars: what the parts of the UTF-8 check promise: the length of a first character, a byte in a range, bytes below 128.
+-- Chars: what the parts of the UTF-8 check promise: the length of a first character, a byte in a range, bytes below 128 (document 01, module 1).
 use Prim.Native.Nat.{ℕ, zero, suc, _≤_}
 use mathlib.Core.Path.{_≡_}
 use mathlib.Core.List.{List, [], _∷_}

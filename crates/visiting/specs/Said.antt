@@ -1,4 +1,4 @@
--- What levels and the cases of a visit say on paper.
+-- What levels and the cases of a visit say on paper (document 01, "The whole check").
 use Prim.Native.Nat.{ℕ}
 use Rattle.bson.specs.Answer.{Answer, gives, refuses}
 use Rattle.bson.specs.Level as paper
