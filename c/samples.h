@@ -1,0 +1,80 @@
+/* Documents that more than one test uses. */
+#ifndef SAMPLES_H
+#define SAMPLES_H
+
+#include <stdint.h>
+#include <stddef.h>
+
+/* One element of each of the twenty-one types, keys a to u. In front of each line: the offset of its tag. */
+static const uint8_t every_type[221] = {
+    /*   0 */ 0xDD, 0, 0, 0,
+    /*   4 */ 0x01, 'a', 0, 0, 0, 0, 0, 0, 0, 0x04, 0xC0, /* -2.5: sign 1, exponent 1024, fraction 1/4: C004000000000000 */
+    /*  15 */ 0x02, 'b', 0, 4, 0, 0, 0, 'h', 0xC3, 0xA9, 0, /* h and U+00E9 */
+    /*  26 */ 0x03, 'c', 0, 8, 0, 0, 0, 0x0A, 'x', 0, 0,
+    /*  37 */ 0x04, 'd', 0, 12, 0, 0, 0, 0x10, '0', 0, 0xFF, 0xFF, 0xFF, 0xFF, 0,
+    /*  52 */ 0x05, 'e', 0, 2, 0, 0, 0, 0x80, 0xAA, 0xBB,
+    /*  62 */ 0x06, 'f', 0,
+    /*  65 */ 0x07, 'g', 0, 1, 2, 3, 4, 5, 6, 7, 8, 9, 10, 11, 12,
+    /*  80 */ 0x08, 'h', 0, 1,
+    /*  84 */ 0x09, 'i', 0, 0x18, 0xFC, 0xFF, 0xFF, 0xFF, 0xFF, 0xFF, 0xFF, /* -1000: 2^64 - 1000 ends in FC18 */
+    /*  95 */ 0x0A, 'j', 0,
+    /*  98 */ 0x0B, 'k', 0, '^', 'a', 0, 'i', 0,
+    /* 106 */ 0x0C, 'l', 0, 3, 0, 0, 0, 'd', 'b', 0, 21, 22, 23, 24, 25, 26, 27, 28, 29, 30, 31, 32,
+    /* 128 */ 0x0D, 'm', 0, 2, 0, 0, 0, 'f', 0,
+    /* 137 */ 0x0E, 'n', 0, 1, 0, 0, 0, 0, /* the empty text */
+    /* 145 */ 0x0F, 'o', 0, 18, 0, 0, 0, 2, 0, 0, 0, 'g', 0, 8, 0, 0, 0, 0x0A, 'y', 0, 0,
+    /* 166 */ 0x10, 'p', 0, 0xF9, 0xFF, 0xFF, 0xFF, /* -7 */
+    /* 173 */ 0x11, 'q', 0, 4, 3, 2, 1, 0x98, 0xBA, 0xDC, 0xFE, /* increment 01020304, seconds FEDCBA98 */
+    /* 184 */ 0x12, 'r', 0, 0, 0, 0, 0, 0, 0, 0, 0x80, /* -2^63 */
+    /* 195 */ 0x13, 's', 0, 41, 42, 43, 44, 45, 46, 47, 48, 49, 50, 51, 52, 53, 54, 55, 56,
+    /* 214 */ 0xFF, 't', 0,
+    /* 217 */ 0x7F, 'u', 0,
+    /* 220 */ 0,
+};
+
+/* P12 of document 01: key a twice, first false, then true. */
+static const uint8_t p12[13] = {13, 0, 0, 0, 0x08, 'a', 0, 0, 0x08, 'a', 0, 1, 0};
+
+/* An int32 87 under `battery`, then a tag that is none, at 17. */
+static const uint8_t unframed[21] = {21, 0, 0, 0, 0x10, 'b', 'a', 't', 't', 'e', 'r', 'y', 0, 87, 0, 0, 0, 0x14, 'x', 0, 0};
+
+static inline void put32(uint8_t *at, size_t n) {
+    for (int i = 0; i < 4; i++) {
+        at[i] = (uint8_t)(n >> 8 * i);
+    }
+}
+
+static inline size_t put(uint8_t *out, size_t at, const uint8_t *bytes, size_t size) {
+    for (size_t i = 0; i < size; i++) {
+        out[at + i] = bytes[i];
+    }
+    return at + size;
+}
+
+/* A document in a document, and so on: `levels` of them inside the top, and in the innermost `body`. `front` stands between the length of
+ * a document and the next document, tag and key and all; so each level adds a length, `front` and a zero. Returns the top's length. */
+static inline size_t nest(uint8_t *out, size_t levels, const uint8_t *front, size_t front_size, const uint8_t *body, size_t body_size) {
+    size_t whole = 5 + body_size + levels * (4 + front_size + 1), at = 0;
+    for (size_t level = 0; level < levels; level++) {
+        put32(out + at, whole - level * (4 + front_size + 1));
+        at = put(out, at + 4, front, front_size);
+    }
+    put32(out + at, 5 + body_size);
+    at = put(out, at + 4, body, body_size);
+    while (at < whole) {
+        out[at++] = 0;
+    }
+    return whole;
+}
+
+/* The same of codes with scope, empty code and all: the front has a length of its own, of code and scope, that each level sets. */
+static inline size_t nest_scopes(uint8_t *out, size_t levels) {
+    static const uint8_t front[11] = {0x0F, 0, 0, 0, 0, 0, 1, 0, 0, 0, 0};
+    size_t whole = nest(out, levels, front, sizeof front, NULL, 0);
+    for (size_t level = 0; level < levels; level++) {
+        put32(out + 15 * level + 6, whole - 16 * (level + 1) + 9);
+    }
+    return whole;
+}
+
+#endif

@@ -1,0 +1,83 @@
+/* Slices past 2^31 and 2^32 bytes: no length is cut to 32 bits, and room ends at 2,147,483,647. Only the pages that are touched exist. */
+#define _DEFAULT_SOURCE
+#include "samples.h"
+#include "test.h"
+#include <sys/mman.h>
+
+static const size_t SPAN = 5368709120; /* five times 2^30 */
+static const size_t ROOM = 2147483647;
+
+static uint8_t *pages(void) {
+    void *at = mmap(NULL, SPAN, PROT_READ | PROT_WRITE, MAP_PRIVATE | MAP_ANONYMOUS | MAP_NORESERVE, -1, 0);
+    return at == MAP_FAILED ? NULL : at;
+}
+
+/* The length in front is an i32: it differs from a slice's length that is the same number of 32 bits. */
+static void admission(uint8_t *slice) {
+    put32(slice, 5);
+    EXPECT_VERDICT(fringewell_check(slice, 5), 0, 0, 0);
+    EXPECT_VERDICT(fringewell_check(slice, 4294967296 + 5), FRINGEWELL_LENGTH_DIFFERS, 0, 0);
+    put32(slice, 0xFFFFFFFF);
+    EXPECT_VERDICT(fringewell_check(slice, 0xFFFFFFFF), FRINGEWELL_LENGTH_DIFFERS, 0, 0);
+    put32(slice, 0x80000000);
+    EXPECT_VERDICT(fringewell_check(slice, 0x80000000), FRINGEWELL_LENGTH_DIFFERS, 0, 0);
+}
+
+/* A document of `size` bytes with one binary under an empty key: 4 + 2 + 5 + n + 1. */
+static void one_binary(uint8_t *slice, size_t size) {
+    put32(slice, size);
+    slice[4] = FRINGEWELL_TAG_BINARY;
+    slice[5] = 0;
+    put32(slice + 6, size - 12);
+    slice[10] = 0;
+}
+
+/* Joined with itself a document of 2^30 + 3 bytes would have 2^31 + 1, which `out` could hold. */
+static void joining(uint8_t *slice, uint8_t *out) {
+    one_binary(slice, ROOM);
+    EXPECT_VERDICT(fringewell_check(slice, ROOM), 0, 0, 1);
+    fringewell_found found = fringewell_lookup(slice, ROOM, NOTHING);
+    EXPECT_EQUAL(found.size, ROOM - 7);
+    EXPECT_EQUAL(fringewell_step(slice, ROOM, 4, false).next, ROOM - 1);
+    one_binary(slice, 1073741827);
+    fringewell_joined joined = fringewell_join(slice, 1073741827, slice, 1073741827, out, SPAN);
+    EXPECT_EQUAL(joined.number, FRINGEWELL_NO_ROOM);
+    EXPECT_EQUAL(joined.which, 0);
+    EXPECT_EQUAL(out[0], 0);
+}
+
+/* A top of almost all the room: 2 bytes of a null and the zero fit behind 2,147,483,644, and not behind one more. */
+static void writing(uint8_t *out) {
+    fringewell_writer writer = fringewell_writer_new();
+    EXPECT_WRITTEN(fringewell_writer_open(&writer, out, SPAN), 0, 4);
+    writer.words[0] = 2147483645;
+    EXPECT_WRITTEN(fringewell_append_null(&writer, out, SPAN, NOTHING), FRINGEWELL_NO_ROOM, 0);
+    writer.words[0] = 2147483644;
+    EXPECT_WRITTEN(fringewell_append_null(&writer, out, SPAN, NOTHING), 0, 2147483646);
+    EXPECT_EQUAL(out[2147483644], FRINGEWELL_TAG_NULL);
+    EXPECT_WRITTEN(fringewell_writer_close(&writer, out, SPAN), 0, ROOM);
+    EXPECT(memcmp(out, (uint8_t[]){0xFF, 0xFF, 0xFF, 0x7F}, 4) == 0);
+}
+
+/* Data as long as 2^32 and more bytes are past the room, whatever their length is in 32 bits. */
+static void long_data(uint8_t *out, const uint8_t *data) {
+    fringewell_writer writer = fringewell_writer_new();
+    EXPECT_WRITTEN(fringewell_writer_open(&writer, out, SPAN), 0, 4);
+    EXPECT_WRITTEN(fringewell_append_binary(&writer, out, SPAN, NOTHING, 0, data, 4294967296), FRINGEWELL_NO_ROOM, 0);
+    EXPECT_WRITTEN(fringewell_append_binary(&writer, out, SPAN, NOTHING, 2, data, SPAN), FRINGEWELL_NO_ROOM, 0);
+    EXPECT_WRITTEN(fringewell_append_binary(&writer, out, SPAN, NOTHING, 0, data, ROOM), FRINGEWELL_NO_ROOM, 0);
+}
+
+int main(void) {
+    uint8_t *slice = pages(), *out = pages();
+    EXPECT(slice != NULL && out != NULL);
+    if (slice != NULL && out != NULL) {
+        admission(slice);
+        joining(slice, out);
+        writing(out);
+        long_data(out, slice);
+        munmap(slice, SPAN);
+        munmap(out, SPAN);
+    }
+    return held();
+}

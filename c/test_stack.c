@@ -1,0 +1,104 @@
+/* How much stack the deepest calls take: each runs on a thread whose stack was filled with a pattern, and the lowest byte that is no
+ * longer the pattern tells how far down it went. */
+#define _GNU_SOURCE
+#include "samples.h"
+#include "test.h"
+#include <pthread.h>
+#include <sys/mman.h>
+#include <unistd.h>
+
+enum { SIZE = 1 << 20 };
+
+/* The same memory twice: one view is the stack, the other is looked at. Memory checkers forbid to look below a stack's end. */
+static uint8_t *stack, *view;
+
+typedef struct {
+    void (*call)(const uint8_t *document, size_t length);
+    const uint8_t *document;
+    size_t length, from;
+} task;
+
+static void make_stack(void) {
+    int file = memfd_create("stack", 0);
+    bool sized = file >= 0 && ftruncate(file, SIZE) == 0;
+    stack = sized ? mmap(NULL, SIZE, PROT_READ | PROT_WRITE, MAP_SHARED, file, 0) : MAP_FAILED;
+    view = sized ? mmap(NULL, SIZE, PROT_READ | PROT_WRITE, MAP_SHARED, file, 0) : MAP_FAILED;
+}
+
+static void *run(void *argument) {
+    task *t = argument;
+    const uint8_t here = 0;
+    t->from = (size_t)(&here - stack);
+    t->call(t->document, t->length);
+    return NULL;
+}
+
+/* From the frame that calls, so a little more than the call itself takes. */
+static size_t measure(void (*call)(const uint8_t *, size_t), const uint8_t *document, size_t length) {
+    task t = {call, document, length, 0};
+    pthread_attr_t attributes;
+    pthread_t thread;
+    memset(view, GUARD, SIZE);
+    pthread_attr_init(&attributes);
+    pthread_attr_setstack(&attributes, stack, SIZE);
+    EXPECT(pthread_create(&thread, &attributes, run, &t) == 0 && pthread_join(thread, NULL) == 0);
+    pthread_attr_destroy(&attributes);
+    size_t low = 0;
+    while (low < t.from && view[low] == GUARD) {
+        low++;
+    }
+    return t.from - low;
+}
+
+static void plain(const uint8_t *document, size_t length) {
+    fringewell_check(document, length);
+}
+
+static void strict(const uint8_t *document, size_t length) {
+    fringewell_check_strict(document, length);
+}
+
+static void joining(const uint8_t *document, size_t length) {
+    static uint8_t out[8192];
+    fringewell_join(document, length, document, length, out, sizeof out);
+}
+
+/* Some of the rest: no call but the check goes down by levels. */
+static void others(const uint8_t *document, size_t length) {
+    static uint8_t out[64];
+    static fringewell_writer writer;
+    writer = fringewell_writer_new();
+    fringewell_writer_open(&writer, out, sizeof out);
+    fringewell_append_regex(&writer, out, sizeof out, TEXT("\xC3\xA9"), TEXT("\xC3\xA9"), TEXT("\xC3\xA9"));
+    fringewell_lookup_typed(document, length, TEXT("absent"), FRINGEWELL_TAG_INT32);
+    fringewell_read(document, length, 4);
+}
+
+static size_t most;
+
+static void try_all(const char *name, const uint8_t *document, size_t length) {
+    size_t taken[4] = {measure(plain, document, length), measure(strict, document, length), measure(joining, document, length),
+                       measure(others, document, length)};
+    printf("%-9s: plain check %zu, strict check %zu, join %zu, others %zu bytes\n", name, taken[0], taken[1], taken[2], taken[3]);
+    for (int i = 0; i < 4; i++) {
+        EXPECT(taken[i] > 0 && taken[i] <= FRINGEWELL_STACK_BYTES);
+        most = taken[i] > most ? taken[i] : most;
+    }
+}
+
+/* 201 documents or arrays inside the top, or 101 scopes; and in the innermost of 201 documents what takes the longest way through its
+ * texts, and is read before it is found too deep: a regex, a code with scope. */
+int main(void) {
+    static uint8_t deep[4096];
+    make_stack();
+    EXPECT(stack != MAP_FAILED && view != MAP_FAILED);
+    if (failed == 0) {
+        try_all("documents", deep, nest(deep, 201, BYTES(0x03, 0), NOTHING));
+        try_all("arrays", deep, nest(deep, 201, BYTES(0x04, '0', 0), NOTHING));
+        try_all("scopes", deep, nest_scopes(deep, 101));
+        try_all("regex", deep, nest(deep, 201, BYTES(0x03, 0), BYTES(0x0B, 0xC3, 0xA9, 0, 0xC3, 0xA9, 0, 0xC3, 0xA9, 0)));
+        try_all("code", deep, nest(deep, 201, BYTES(0x03, 0), BYTES(0x0F, 0, 16, 0, 0, 0, 3, 0, 0, 0, 0xC3, 0xA9, 0, 5, 0, 0, 0, 0)));
+        printf("at most %zu bytes of stack, of the %d that the header says\n", most, FRINGEWELL_STACK_BYTES);
+    }
+    return held();
+}

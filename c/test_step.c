@@ -1,0 +1,176 @@
+/* Steps, and reading what they yield. */
+#include "samples.h"
+#include "test.h"
+
+/* What each element of `every_type` is: place, tag, framed value; then number and parts. */
+static const struct {
+    uint64_t place, tag, offset, size;
+    uint64_t bits, offset1, size1, offset2, size2;
+} elements[21] = {
+    {4, FRINGEWELL_TAG_DOUBLE, 7, 8, 0xC004000000000000, 0, 0, 0, 0},
+    {15, FRINGEWELL_TAG_STRING, 18, 8, 0, 22, 3, 0, 0}, /* without its length and zero */
+    {26, FRINGEWELL_TAG_DOCUMENT, 29, 8, 0, 29, 8, 0, 0},
+    {37, FRINGEWELL_TAG_ARRAY, 40, 12, 0, 40, 12, 0, 0},
+    {52, FRINGEWELL_TAG_BINARY, 55, 7, 0x80, 60, 2, 0, 0}, /* behind length and subtype */
+    {62, FRINGEWELL_TAG_UNDEFINED, 65, 0, 0, 0, 0, 0, 0},
+    {65, FRINGEWELL_TAG_OBJECT_ID, 68, 12, 0, 68, 12, 0, 0},
+    {80, FRINGEWELL_TAG_BOOL, 83, 1, 1, 0, 0, 0, 0},
+    {84, FRINGEWELL_TAG_DATETIME, 87, 8, (uint64_t)-1000, 0, 0, 0, 0},
+    {95, FRINGEWELL_TAG_NULL, 98, 0, 0, 0, 0, 0, 0},
+    {98, FRINGEWELL_TAG_REGEX, 101, 5, 0, 101, 2, 104, 1}, /* without their zeros */
+    {106, FRINGEWELL_TAG_DBPOINTER, 109, 19, 0, 113, 2, 116, 12},
+    {128, FRINGEWELL_TAG_CODE, 131, 6, 0, 135, 1, 0, 0},
+    {137, FRINGEWELL_TAG_SYMBOL, 140, 5, 0, 144, 0, 0, 0},
+    {145, FRINGEWELL_TAG_CODE_WITH_SCOPE, 148, 18, 0, 156, 1, 158, 8}, /* the code behind both lengths */
+    {166, FRINGEWELL_TAG_INT32, 169, 4, (uint64_t)-7, 0, 0, 0, 0},
+    {173, FRINGEWELL_TAG_TIMESTAMP, 176, 8, 0xFEDCBA9801020304, 0, 0, 0, 0},
+    {184, FRINGEWELL_TAG_INT64, 187, 8, 0x8000000000000000, 0, 0, 0, 0},
+    {195, FRINGEWELL_TAG_DECIMAL128, 198, 16, 0, 198, 16, 0, 0},
+    {214, FRINGEWELL_TAG_MIN_KEY, 217, 0, 0, 0, 0, 0, 0},
+    {217, FRINGEWELL_TAG_MAX_KEY, 220, 0, 0, 0, 0, 0, 0},
+};
+
+#define EXPECT_NO_ELEMENT(call, number_, place_, next_) \
+    do {                                                \
+        fringewell_stepped stepped = (call);            \
+        EXPECT_EQUAL(stepped.number, (number_));        \
+        EXPECT_EQUAL(stepped.place, (place_));          \
+        EXPECT_EQUAL(stepped.ended, 1);                 \
+        EXPECT_EQUAL(stepped.next, (next_));            \
+        EXPECT_EQUAL(stepped.tag, 0);                   \
+        EXPECT_EQUAL(stepped.key_offset, 0);            \
+        EXPECT_EQUAL(stepped.key_size, 0);              \
+        EXPECT_EQUAL(stepped.offset, 0);                \
+        EXPECT_EQUAL(stepped.size, 0);                  \
+    } while (0)
+
+/* From 4 to the end, each step from where the last one ended. */
+static void every_element(void) {
+    uint64_t next = 4, ended = 0;
+    for (int i = 0; i < 21; i++) {
+        fringewell_stepped stepped = fringewell_step(every_type, sizeof every_type, next, ended);
+        EXPECT_EQUAL(stepped.number, 0);
+        EXPECT_EQUAL(stepped.place, elements[i].place);
+        EXPECT_EQUAL(stepped.ended, 0);
+        EXPECT_EQUAL(stepped.next, elements[i].offset + elements[i].size);
+        EXPECT_EQUAL(stepped.tag, elements[i].tag);
+        EXPECT_EQUAL(stepped.key_offset, elements[i].place + 1);
+        EXPECT_EQUAL(stepped.key_size, 1);
+        EXPECT_EQUAL(every_type[stepped.key_offset], 'a' + (uint64_t)i);
+        EXPECT_EQUAL(stepped.offset, elements[i].offset);
+        EXPECT_EQUAL(stepped.size, elements[i].size);
+        next = stepped.next;
+        ended = stepped.ended;
+    }
+    EXPECT_NO_ELEMENT(fringewell_step(every_type, sizeof every_type, next, ended), 0, 0, 220);
+}
+
+static void every_value(void) {
+    for (int i = 0; i < 21; i++) {
+        fringewell_value value = fringewell_read(every_type, sizeof every_type, elements[i].place);
+        EXPECT_EQUAL(value.number, 0);
+        EXPECT_EQUAL(value.place, 0);
+        EXPECT_EQUAL(value.tag, elements[i].tag);
+        EXPECT_EQUAL(value.bits, elements[i].bits);
+        EXPECT_EQUAL(value.offset, elements[i].offset1);
+        EXPECT_EQUAL(value.size, elements[i].size1);
+        EXPECT_EQUAL(value.offset2, elements[i].offset2);
+        EXPECT_EQUAL(value.size2, elements[i].size2);
+    }
+    EXPECT(fringewell_bits_double(fringewell_read(every_type, sizeof every_type, 4).bits) == -2.5);
+    EXPECT_EQUAL(fringewell_double_bits(-2.5), 0xC004000000000000);
+    EXPECT((int64_t)fringewell_read(every_type, sizeof every_type, 84).bits == -1000);
+    EXPECT((int32_t)fringewell_read(every_type, sizeof every_type, 166).bits == -7);
+}
+
+/* The largest int32 is not sign-extended to a negative; false is 0; subtype 2 gives what lies behind its inner length. */
+static void other_values(void) {
+    EXPECT_EQUAL(fringewell_read(BYTES(11, 0, 0, 0, 0x10, 0, 0xFF, 0xFF, 0xFF, 0x7F, 0), 4).bits, 0x7FFFFFFF);
+    EXPECT_EQUAL(fringewell_read(BYTES(11, 0, 0, 0, 0x10, 0, 0, 0, 0, 0x80, 0), 4).bits, 0xFFFFFFFF80000000);
+    EXPECT_EQUAL(fringewell_read(p12, sizeof p12, 4).bits, 0);
+    fringewell_value old = fringewell_read(BYTES(17, 0, 0, 0, 0x05, 0, 5, 0, 0, 0, 2, 1, 0, 0, 0, 0xAA, 0), 4);
+    EXPECT_EQUAL(old.number, 0);
+    EXPECT_EQUAL(old.bits, 2);
+    EXPECT_EQUAL(old.offset, 15);
+    EXPECT_EQUAL(old.size, 1);
+    fringewell_value none = fringewell_read(BYTES(12, 0, 0, 0, 0x05, 0, 0, 0, 0, 0, 7, 0), 4);
+    EXPECT_EQUAL(none.number, 0);
+    EXPECT_EQUAL(none.bits, 7);
+    EXPECT_EQUAL(none.offset, 11); /* the data are empty, behind the subtype */
+    EXPECT_EQUAL(none.size, 0);
+}
+
+#define EXPECT_UNREAD(call, number_, place_)     \
+    do {                                         \
+        fringewell_value value = (call);         \
+        EXPECT_EQUAL(value.number, (number_));   \
+        EXPECT_EQUAL(value.place, (place_));     \
+        EXPECT_EQUAL(value.tag, 0);              \
+        EXPECT_EQUAL(value.bits, 0);             \
+        EXPECT_EQUAL(value.offset, 0);           \
+        EXPECT_EQUAL(value.size, 0);             \
+        EXPECT_EQUAL(value.offset2, 0);          \
+        EXPECT_EQUAL(value.size2, 0);            \
+    } while (0)
+
+static void unread(void) {
+    EXPECT_UNREAD(fringewell_read(NOTHING, 4), FRINGEWELL_TOO_SHORT, 0);
+    EXPECT_UNREAD(fringewell_read(BYTES(6, 0, 0, 0, 0), 4), FRINGEWELL_LENGTH_DIFFERS, 0);
+    EXPECT_UNREAD(fringewell_read(BYTES(5, 0, 0, 0, 0), 4), FRINGEWELL_ABSENT, 4);
+    EXPECT_UNREAD(fringewell_read(p12, sizeof p12, 3), FRINGEWELL_STEP_OUTSIDE, 3);
+    EXPECT_UNREAD(fringewell_read(p12, sizeof p12, 13), FRINGEWELL_STEP_OUTSIDE, 13);
+    EXPECT_UNREAD(fringewell_read(p12, sizeof p12, SIZE_MAX), FRINGEWELL_STEP_OUTSIDE, SIZE_MAX);
+    EXPECT_UNREAD(fringewell_read(unframed, sizeof unframed, 17), FRINGEWELL_UNKNOWN_TAG, 17);
+    EXPECT_UNREAD(fringewell_read(BYTES(8, 0, 0, 0, 0x08, 0, 2, 0), 4), FRINGEWELL_BAD_BOOLEAN, 4);
+    /* text FF; code with scope of 3 bytes; inner length 2 with 1 byte behind it; data of subtype 2 under four bytes */
+    EXPECT_UNREAD(fringewell_read(BYTES(13, 0, 0, 0, 0x02, 0, 2, 0, 0, 0, 0xFF, 0, 0), 4), FRINGEWELL_NOT_UTF8, 4);
+    EXPECT_UNREAD(fringewell_read(BYTES(10, 0, 0, 0, 0x0F, 0, 3, 0, 0, 0), 4), FRINGEWELL_BAD_SHAPE, 4);
+    EXPECT_UNREAD(fringewell_read(BYTES(17, 0, 0, 0, 0x05, 0, 5, 0, 0, 0, 2, 2, 0, 0, 0, 0xAA, 0), 4), FRINGEWELL_BAD_SHAPE, 4);
+    EXPECT_UNREAD(fringewell_read(BYTES(15, 0, 0, 0, 0x05, 0, 3, 0, 0, 0, 2, 0, 0, 0, 0), 4), FRINGEWELL_BAD_SHAPE, 4);
+    /* code text FF and a scope of length 0: tested in the order of the text */
+    EXPECT_UNREAD(fringewell_read(BYTES(21, 0, 0, 0, 0x0F, 0, 14, 0, 0, 0, 2, 0, 0, 0, 0xFF, 0, 0, 0, 0, 0, 0), 4), FRINGEWELL_NOT_UTF8,
+                  4);
+}
+
+/* P5 yields its int32 and then begins past the terminator; P6 is framed and ends cleanly; P11 yields its null first. */
+static void last_values(void) {
+    static const uint8_t p5[10] = {10, 0, 0, 0, 0x10, 0, 7, 0, 0, 0}, p6[10] = {10, 0, 0, 0, 0x0F, 0, 3, 0, 0, 0};
+    fringewell_stepped seven = fringewell_step(p5, sizeof p5, 4, false);
+    EXPECT_EQUAL(seven.number, 0);
+    EXPECT_EQUAL(seven.key_offset, 5);
+    EXPECT_EQUAL(seven.key_size, 0);
+    EXPECT_EQUAL(seven.offset, 6);
+    EXPECT_EQUAL(seven.next, 10);
+    EXPECT_EQUAL(fringewell_read(p5, sizeof p5, 4).bits, 7);
+    EXPECT_NO_ELEMENT(fringewell_step(p5, sizeof p5, 10, false), FRINGEWELL_STEP_OUTSIDE, 10, 10);
+    EXPECT_EQUAL(fringewell_step(p6, sizeof p6, 4, false).next, 9);
+    EXPECT_NO_ELEMENT(fringewell_step(p6, sizeof p6, 9, false), 0, 0, 9);
+    EXPECT_EQUAL(fringewell_step(BYTES(6, 0, 0, 0, 0x0A, 0), 4, false).next, 6);
+    EXPECT_NO_ELEMENT(fringewell_step(BYTES(6, 0, 0, 0, 0x0A, 0), 6, false), FRINGEWELL_STEP_OUTSIDE, 6, 6);
+}
+
+/* Any cursor gets an answer: admission first, then the mark, then 4, and nothing wraps. */
+static void cursors(void) {
+    static const size_t outside[] = {0, 3, 13, 14, INT32_MAX, UINT32_MAX, (size_t)UINT32_MAX + 5, PTRDIFF_MAX, SIZE_MAX - 3, SIZE_MAX};
+    for (size_t i = 0; i < sizeof outside / sizeof *outside; i++) {
+        EXPECT_NO_ELEMENT(fringewell_step(p12, sizeof p12, outside[i], false), FRINGEWELL_STEP_OUTSIDE, outside[i], outside[i]);
+        EXPECT_NO_ELEMENT(fringewell_step(p12, sizeof p12, outside[i], true), 0, 0, outside[i]);
+        EXPECT_NO_ELEMENT(fringewell_step(NOTHING, outside[i], true), FRINGEWELL_TOO_SHORT, 0, outside[i]);
+    }
+    EXPECT_NO_ELEMENT(fringewell_step(p12, sizeof p12, 12, false), 0, 0, 12);
+    EXPECT_NO_ELEMENT(fringewell_step(p12, sizeof p12, 4, true), 0, 0, 4);
+    EXPECT_NO_ELEMENT(fringewell_step(BYTES(5, 0, 0, 0, 1), 4, false), FRINGEWELL_NO_TERMINATOR, 0, 4);
+    EXPECT_NO_ELEMENT(fringewell_step(unframed, sizeof unframed, 17, false), FRINGEWELL_UNKNOWN_TAG, 17, 17);
+    /* from inside an element: at 5 the tag would be `b`, 62, which is none */
+    EXPECT_NO_ELEMENT(fringewell_step(unframed, sizeof unframed, 5, false), FRINGEWELL_UNKNOWN_TAG, 5, 5);
+}
+
+int main(void) {
+    every_element();
+    every_value();
+    other_values();
+    unread();
+    last_values();
+    cursors();
+    return held();
+}
