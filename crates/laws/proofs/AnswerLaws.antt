@@ -1,12 +1,14 @@
--- What an answer that gives says of the tests before it (document 01, "Numbers returned"). Assumes nothing.
+-- What an answer that gives says of the tests before it, and by which numbers one refuses (document 01, "Numbers returned"). Assumes nothing.
 use Prim.Native.Nat.{ℕ, _-_}
-use mathlib.Core.Path.{_≡_, refl, ap, sym, _∙_}
-use mathlib.Core.List.{List}
-use mathlib.Core.Bool.{Bool, true, false}
+use mathlib.Core.Path.{_≡_, refl, ap, sym, subst, _∙_}
+use mathlib.Core.List.{List, [], _∷_}
+use mathlib.Core.Bool.{Bool, true, false, true≢false, cond, _&&_}
 use lib.ListN.{length, take, drop}
+use lib.Dec.{eqb}
 use native.Mathlib.Omega.{arith}
+use borrow.Author.Tests.{eqb-true}
 use Rattle.bson.specs.Answer.{Answer, gives, refuses, then, unless, at}
-use Rattle.laws.proofs.Common.{rest-part}
+use Rattle.laws.proofs.Common.{split, both-hold, rest-part}
 
 pub never : {A P : Type 0} {n p : ℕ} {a : A} → refuses n p ≡ gives a → P
 never e = let z : _≡_ {A = ℕ} 0 1 = cc in let w : ⊥ = omega arith in absurd w
@@ -45,3 +47,51 @@ answered said e q = sym e ∙ ap said q
 pub rest-answered : {E A : Type 0} (said : E → Answer A) (f : List ℕ → Answer A) (v : List ℕ) (a : ℕ) {r x : E}
     → said r ≡ f (take (length v - a) (drop a v)) → r ≡ x → f (drop a v) ≡ said x
 rest-answered said f v a e q = ap f (sym (rest-part v a)) ∙ answered said e q
+
+-- An answer that refuses by none but these numbers, and how that goes from the tests to the whole.
+
+abbrev pub oneOf : List ℕ → ℕ → Bool
+oneOf [] n = false
+oneOf (m ∷ ms) n = cond (eqb n m) true (oneOf ms n)
+
+pub data RefusesIn {A : Type 0} (ms : List ℕ) : Answer A → Type 0 where
+  given : {a : A} → RefusesIn ms (gives a)
+  by : {n p : ℕ} → oneOf ms n ≡ true → RefusesIn ms (refuses n p)
+
+pub then-in : {A B : Type 0} {ms : List ℕ} {x : Answer A} {f : A → Answer B} → RefusesIn ms x
+    → ((a : A) → x ≡ gives a → RefusesIn ms (f a)) → RefusesIn ms (then x f)
+then-in given g = g _ refl
+then-in (by e) g = by e
+
+pub unless-in : {A : Type 0} {ms : List ℕ} (b : Bool) (n : ℕ) {x : Answer A} → oneOf ms n ≡ true → RefusesIn ms x → RefusesIn ms (unless b n x)
+unless-in true n e h = h
+unless-in false n e h = by e
+
+pub cond-in : {A : Type 0} {ms : List ℕ} (b : Bool) {x y : Answer A} → RefusesIn ms x → RefusesIn ms y → RefusesIn ms (cond b x y)
+cond-in true h k = h
+cond-in false h k = k
+
+pub at-in : {A : Type 0} {ms : List ℕ} (p : ℕ) {x : Answer A} → RefusesIn ms x → RefusesIn ms (at p x)
+at-in p given = given
+at-in p (by e) = by e
+
+pub refused-in : {A : Type 0} {ms : List ℕ} {x : Answer A} {n p : ℕ} → RefusesIn ms x → x ≡ refuses n p → oneOf ms n ≡ true
+refused-in given e = never (sym e)
+refused-in {ms = ms} {n = n} (by {n = m} h) e = let i : m ≡ n = cc in subst (λ (k : ℕ). oneOf ms k ≡ true) i h
+
+-- each number of a list is in another: `refl` shows it of two that are written out
+abbrev pub within : List ℕ → List ℕ → Bool
+within [] ns = true
+within (m ∷ ms) ns = oneOf ns m && within ms ns
+
+pub one-within : (ms ns : List ℕ) (n : ℕ) → within ms ns ≡ true → oneOf ms n ≡ true → oneOf ns n ≡ true
+one-within [] ns n w h = absurd (true≢false (sym h))
+one-within (m ∷ ms) ns n w h =
+    let (a, b) = both-hold (oneOf ns m) (within ms ns) w in
+    split (eqb n m)
+    (λ t. subst (λ (k : ℕ). oneOf ns k ≡ true) (sym (eqb-true n m t)) a)
+    (λ t. one-within ms ns n b (rw t at h))
+
+pub weaken : {A : Type 0} {ms ns : List ℕ} {x : Answer A} → within ms ns ≡ true → RefusesIn ms x → RefusesIn ns x
+weaken w given = given
+weaken {ms = ms} {ns = ns} w (by {n = n} h) = by (one-within ms ns n w h)

@@ -57,7 +57,7 @@ le64-bytes n rest h =
       le32-bytes (n / 0x1_0000_0000) rest (omega arith),
     ) (omega arith)
 
-signed-unsigned : (half : ℕ) (z : ℤ) → Ranged half z → signed half (unsigned half z) ≡ z
+pub signed-unsigned : (half : ℕ) (z : ℤ) → Ranged half z → signed half (unsigned half z) ≡ z
 unfolding signed unsigned
 signed-unsigned half (pos n) h = rw (lt-ltb n half h)
 signed-unsigned half (negsuc n) h =

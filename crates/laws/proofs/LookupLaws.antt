@@ -1,5 +1,5 @@
--- Lookup goes from step to step: what each answer of the step at an offset means for the search from there; what is found lies in
--- the slice; and a typed getter gives the number of the value found (document 01, "Values"). Assumes nothing.
+-- Lookup goes from step to step: what each answer of the step at an offset means for the search from there; what is found is had again at its
+-- place, and lies in the slice; and a typed getter gives the number of the value found (document 01, "Values"). Assumes nothing.
 use Prim.Native.Nat.{ℕ, _+_, _≤_}
 use mathlib.Core.Path.{_≡_, refl, sym, ap, subst, _∙_}
 use mathlib.Core.List.{List}
@@ -13,12 +13,13 @@ use Rattle.bson.specs.Bytes.{le64, i32, i64, Part, bytes, same}
 use Rattle.bson.specs.Tags.{ElementType, Boolean, Int32, Double, Int64, DateTime, Timestamp, tags, rowOf, typeOf}
 use Rattle.bson.specs.Framing.{inFront}
 use Rattle.bson.specs.Step.{Cursor, cursor, Element, past, yield, end, step, Iteration, ended, broken, more, onward, iterate}
-use Rattle.bson.specs.Value.{Leaf, leaf, boolean, int32, int64, dateTime, double, timestamp, asLeaf, bool, timestampOf, content, valueIn, valueOf}
+use Rattle.bson.specs.Value.{Leaf, leaf, boolean, int32, int64, dateTime, double, timestamp, asLeaf, bool, timestampOf}
+use Rattle.bson.specs.Value.{content, valueIn, valueOf, elementAt, readAt}
 use Rattle.bson.specs.Lookup.{Found, found, first, get, getWith, typed}
 use Rattle.laws.proofs.AnswerLaws.{never, gives-injective, unless-gives, then-gives, at-gives}
 use Rattle.laws.proofs.Common.{split}
 use Rattle.laws.proofs.AdvanceLaws.{ended-at}
-use Rattle.laws.proofs.StepLaws.{Yields, iterate-eq, Each, iterate-each}
+use Rattle.laws.proofs.StepLaws.{Yields, yields-step, iterate-eq, Each, iterate-each}
 use Rattle.laws.proofs.PartLaws.{BothEnd, parts-inside}
 
 -- the search from an offset on
@@ -66,6 +67,15 @@ first-finds s key offset (more e rest) g f x =
 pub get-finds : (s key : List ℕ) (f : Found) → get s key ≡ gives f → Finds s f
 unfolding get
 get-finds s key f x = first-finds s key 4 (iterate s 4) (iterate-each s 4) f x
+
+-- a step at its place yields it, and a read there its value
+pub get-read : (s key : List ℕ) (f : Found) → get s key ≡ gives f
+    → (step s (cursor (f .element .place) false) ≡ gives (yield (f .element))) × (readAt s (f .element .place) ≡ gives (f .value))
+unfolding readAt elementAt
+get-read s key f x =
+    let r = get-finds s key f x in
+    let y = yields-step s (r .at-cursor) (f .element) (r .yields) in
+    (y, rw (y, r .reads))
 
 -- it lies in the slice, and so do the parts of its value
 pub get-inside : (s key : List ℕ) (f : Found) → get s key ≡ gives f → (past (f .element) ≤ length s) × BothEnd (length s) (f .value)

@@ -8,7 +8,7 @@ use native.Mathlib.Omega.{arith}
 use lib.ListN.{length, getD, take, drop, length-drop}
 use lib.Seq.{getD-drop}
 use lib.Dec.{leb, eqb}
-use borrow.Author.Tests.{leb-true, lt-ltb, eq-eqb, eqb-true, eqb-false}
+use borrow.Author.Tests.{leb-true, le-leb, lt-ltb, eq-eqb, ne-eqb, eqb-true, eqb-false}
 use Rattle.bson.specs.Answer.{Answer, gives, refuses}
 use Rattle.bson.specs.Bytes.{le32, natural, bytes, same}
 use Rattle.bson.specs.Utf8.{utf8}
@@ -105,6 +105,17 @@ module _ (s : List ℕ) (c : Cursor) (e : Element) where
       let l : 4 ≤ c .offset = leb-true 4 (c .offset) low in
       let h : c .offset < terminator s = omega (arith, leb-true (c .offset) (terminator s) high, eqb-false (c .offset) (terminator s) f) in
       element-yields (step-admits s c (yield e) x) g l h (x5 ∙ ap gives i)
+
+  -- and a step at its place yields it
+  pub yields-step : Yields s c e → step s (cursor (e .place) false) ≡ gives (yield e)
+  unfolding step element
+  yields-step y =
+      let low = le-leb 4 (c .offset) (y .low) in
+      let high = le-leb (c .offset) (terminator s) (omega arith) in
+      let going = ne-eqb (c .offset) (terminator s) (λ i. omega arith) in
+      let value : valueSize (getD s (c .offset) 0) (drop (c .offset + 1 + e .key .size + 1) s) ≡ gives (e .value .size) =
+      rw (← y .tagged, ← y .key-at, ← y .value-at) (y .value-is) in
+      rw (y .placed, y .admits, low, high, going, y .key-is, value, ← y .tagged, ← y .key-at, ← y .value-at, ← y .placed)
 
 -- the key of a yielded element is a valid one, so another matches nothing
 pub key-valid : (s : List ℕ) (c : Cursor) (e : Element) → Yields s c e → validCstr (bytes s (e .key)) ≡ true

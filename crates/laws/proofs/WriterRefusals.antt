@@ -3,53 +3,30 @@
 use Prim.Native.Nat.{ℕ, _+_, _-_}
 use mathlib.Core.Path.{_≡_, refl, sym}
 use mathlib.Core.List.{List, [], _∷_}
-use mathlib.Core.Bool.{Bool, true, false, true≢false, cond, _&&_}
+use mathlib.Core.Bool.{Bool, true, true≢false, _&&_}
 use lib.Dec.{leb, ltb, eqb}
 use lib.ListN.{length}
 use borrow.Author.Tests.{eqb-true}
-use Rattle.bson.specs.Answer.{Answer, gives, refuses, then, unless}
+use Rattle.bson.specs.Answer.{Answer, gives, refuses}
 use Rattle.bson.specs.Bytes.{natural}
 use Rattle.bson.specs.Grammar.{bytes32, row, nestTag, elementBytes}
 use Rattle.bson.specs.Writer.{State, used, depth, mark, kindOf, possible, Desk, desk, roomOf, innermost, nextDepth, keyIn}
 use Rattle.bson.specs.Writer.{keyPasses, appended, openedIn, openedTop, closed, Call, openTop, close, append, openNest, answer, leaves, performed}
+use Rattle.laws.proofs.AnswerLaws.{oneOf, RefusesIn, given, then-in, unless-in, cond-in, refused-in}
 use Rattle.laws.proofs.Common.{split}
 
--- one of these numbers
-abbrev pub oneOf : List ℕ → ℕ → Bool
-oneOf [] n = false
-oneOf (m ∷ ms) n = cond (eqb n m) true (oneOf ms n)
-
--- an answer that refuses by no other
-abbrev RefusesIn : {A : Type 0} → List ℕ → Answer A → Type 0
-RefusesIn ms (gives a) = Unit
-RefusesIn ms (refuses n p) = oneOf ms n ≡ true
-
-then-in : {A B : Type 0} (ms : List ℕ) (x : Answer A) (f : A → Answer B) → RefusesIn ms x → ((a : A) → RefusesIn ms (f a)) → RefusesIn ms (then x f)
-then-in ms (gives a) f h g = g a
-then-in ms (refuses n p) f h g = h
-
-unless-in : {A : Type 0} (ms : List ℕ) (b : Bool) (n : ℕ) (x : Answer A) → oneOf ms n ≡ true → RefusesIn ms x → RefusesIn ms (unless b n x)
-unless-in ms true n x e h = h
-unless-in ms false n x e h = e
-
-refused-in : {A : Type 0} (ms : List ℕ) (x : Answer A) (n p : ℕ) → RefusesIn ms x → x ≡ refuses n p → oneOf ms n ≡ true
-refused-in ms x n p h e = rw e at h
-
-module _ (ms : List ℕ) (e18 : oneOf ms 18 ≡ true) where
+module _ {ms : List ℕ} (e18 : oneOf ms 18 ≡ true) where
   kind-in : (m : ℕ) → RefusesIn ms (kindOf m)
   unfolding kindOf
-  kind-in m = split (natural m) (λ t. rw t tt) (λ t. rw t (unless-in ms (eqb m 0xFFFF_FFFF) 18 _ e18 tt))
+  kind-in m = cond-in (natural m) given (unless-in (eqb m 0xFFFF_FFFF) 18 e18 given)
 
   innermost-in : (w : State) (room : ℕ) → RefusesIn ms (innermost w room)
   unfolding innermost
-  innermost-in w room =
-      unless-in ms (possible w room) 18 _ e18
-      (unless-in ms (ltb 0 (depth w)) 18 _ e18
-      (kind-in (mark w (depth w - 1))))
+  innermost-in w room = unless-in (possible w room) 18 e18 (unless-in (ltb 0 (depth w)) 18 e18 (kind-in (mark w (depth w - 1))))
 
   closed-in : (d : Desk) → RefusesIn ms (closed d)
   unfolding closed
-  closed-in d = then-in ms (innermost (d .state) (roomOf d)) _ (innermost-in (d .state) (roomOf d)) (λ kind. tt)
+  closed-in d = then-in (innermost-in (d .state) (roomOf d)) (λ kind q. given)
 
 abbrev refusals : List ℕ
 refusals = 13 ∷ 14 ∷ 15 ∷ 18 ∷ []
@@ -57,35 +34,34 @@ refusals = 13 ∷ 14 ∷ 15 ∷ 18 ∷ []
 appended-in : (d : Desk) (more tag : ℕ) (key : List ℕ) (good : Bool) (value : List ℕ) → RefusesIn refusals (appended d more tag key good value)
 unfolding appended
 appended-in d more tag key good value =
-    then-in refusals (innermost (d .state) (roomOf d)) _ (innermost-in refusals refl (d .state) (roomOf d)) λ kind.
+    then-in (innermost-in refl (d .state) (roomOf d)) λ kind q.
     let new = elementBytes tag (keyIn kind key) value in
-    unless-in refusals (leb (nextDepth (d .state)) 200) 13 _ refl
-    (unless-in refusals (keyPasses kind key && good) 15 _ refl
-    (unless-in refusals (leb (used (d .state) + length new + (depth (d .state) + more)) (roomOf d)) 14 _ refl tt))
+    unless-in (leb (nextDepth (d .state)) 200) 13 refl
+    (unless-in (keyPasses kind key && good) 15 refl
+    (unless-in (leb (used (d .state) + length new + (depth (d .state) + more)) (roomOf d)) 14 refl given))
 
 pub appended-refused : (d : Desk) (more tag : ℕ) (key : List ℕ) (good : Bool) (value : List ℕ) (n p : ℕ)
     → appended d more tag key good value ≡ refuses n p → oneOf (13 ∷ 14 ∷ 15 ∷ 18 ∷ []) n ≡ true
-appended-refused d more tag key good value n p = refused-in refusals (appended d more tag key good value) n p (appended-in d more tag key good value)
+appended-refused d more tag key good value n p = refused-in (appended-in d more tag key good value)
 
 answer-in : (c : Call) (d : Desk) → RefusesIn refusals (answer c d)
 unfolding answer openedTop openedIn
 answer-in openTop d =
-    unless-in refusals (possible (d .state) (roomOf d) && eqb (depth (d .state)) 0) 18 _ refl (unless-in refusals (leb 5 (roomOf d)) 14 _ refl tt)
-answer-in close d = closed-in refusals refl d
+    unless-in (possible (d .state) (roomOf d) && eqb (depth (d .state)) 0) 18 refl (unless-in (leb 5 (roomOf d)) 14 refl given)
+answer-in close d = closed-in refl d
 answer-in (append key v) d = appended-in d 0 (row v .tag) key (row v .good) (row v .value)
-answer-in (openNest n key) d =
-    then-in refusals (appended d 1 (nestTag n) key true (bytes32 5)) _ (appended-in d 1 (nestTag n) key true (bytes32 5)) (λ e. tt)
+answer-in (openNest n key) d = then-in (appended-in d 1 (nestTag n) key true (bytes32 5)) (λ e q. given)
 
 -- "order: 18, 13, 15, 14"
 pub refused-number : (c : Call) (d : Desk) (n p : ℕ) → answer c d ≡ refuses n p → oneOf (13 ∷ 14 ∷ 15 ∷ 18 ∷ []) n ≡ true
-refused-number c d n p = refused-in refusals (answer c d) n p (answer-in c d)
+refused-number c d n p = refused-in (answer-in c d)
 
 -- closing is refused for its state alone
 pub close-refused : (d : Desk) (n p : ℕ) → answer close d ≡ refuses n p → n ≡ 18
 unfolding answer
 close-refused d n p e =
     split (eqb n 18) (λ t. eqb-true n 18 t)
-    (λ t. let z : oneOf (18 ∷ []) n ≡ true = refused-in (18 ∷ []) (closed d) n p (closed-in (18 ∷ []) refl d) e in
+    (λ t. let z : oneOf (18 ∷ []) n ≡ true = refused-in {ms = 18 ∷ []} (closed-in refl d) e in
     absurd (true≢false (sym (rw t at z))))
 
 -- so 0 tells an accepted call

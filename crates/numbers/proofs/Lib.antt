@@ -2,3 +2,5 @@ pub mod Truth
 pub mod Wide
 pub mod Read
 pub mod Determined
+pub mod Tells
+pub mod ValueTells

@@ -16,3 +16,4 @@ pub mod Trace
 pub mod Taken
 pub mod ReadBack
 pub mod Builds
+pub mod Refusals

@@ -9,7 +9,8 @@ use denote.Ref.{now}
 use Rattle.bson.specs.Answer.{Answer, gives, refuses}
 use Rattle.bson.specs.Writer as writer
 use Rattle.bson.specs.Writer.{used, Desk, desk, Call, answer, written, leaves, performed}
-use Rattle.laws.proofs.WriterRefusals.{oneOf, refused-number, unchanged}
+use Rattle.laws.proofs.AnswerLaws.{oneOf}
+use Rattle.laws.proofs.WriterRefusals.{refused-number, unchanged}
 use Rattle.laws.proofs.WriterLaws.{bytes-behind}
 use Rattle.theorems.specs.ReadBack as readBack
 use Rattle.theorems.specs.ReadBack.{Building, unopened, built, Session, next, run, begin, Stands}
