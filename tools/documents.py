@@ -274,11 +274,13 @@ ROWS = [
 
 
 def row_texts():
-    """Each row's first and last character, each byte one below and one above its range, and each cut short."""
+    """Each row's first and last character, the first with a byte behind it that begins none, each byte one below and one above its range,
+    and each cut short."""
     for row in ROWS:
         low, high = [r[0] for r in row], [r[1] for r in row]
         yield low
         yield high
+        yield low + [0x80]
         for i, (a, z) in enumerate(row):
             for base in (low, high):
                 if a > 0:

@@ -1,0 +1,613 @@
+#!/usr/bin/env python3
+"""Holds the C library against document 01's rules: every boundary function is called as C calls it, and every field that it returns and every
+byte that it was lent for writing must be what tools/rules.py, tools/writing.py and tools/joining.py say.
+
+Asked whole: the documents of the list; the sessions of the writer, call by call; all pairs of document 01's own bytes to join; slices of each size
+up to 71 bytes; texts of two characters; calls of the writer at the greatest room. Sampled, by seeds: 3,000 damaged copies of the documents, and of
+the pairs of documents 1,000 of each kind, good or damaged before good or damaged.
+
+Then the tool is tried itself, on some of the questions: each byte of an answer is changed behind the call, which must be reported, and the rules are
+made wrong, each of which must show as a difference.
+
+usage: tools/try_library.py ARCHIVE     the static library; needs cc
+"""
+import ctypes
+import faulthandler
+import mmap
+import struct
+import subprocess
+import sys
+from array import array
+from ctypes import c_size_t, c_uint8, c_uint32, c_uint64, c_void_p
+from itertools import chain, product
+from tempfile import TemporaryDirectory
+from unittest.mock import patch
+
+import joining
+import rules
+import writing
+from documents import FIELDS, ID, ROWS, Dice, bytes_to_try, doc, element, gets, keyed, le, resized, row_texts, short_beacon, text
+from make_cases import NUMBERS, RETURNED, documents
+from rules import Refused
+from writing import hexed, replayed, session
+
+# ---- the boundary
+
+
+def numbers(names):
+    """A struct of 64-bit numbers."""
+    return type("Numbers", (ctypes.Structure,), {"_fields_": [(name, c_uint64) for name in names.split(" ")]})
+
+
+VERDICT = numbers("number place count")
+FOUND = numbers("number place tag offset size")
+JOINED = numbers("number place which length")
+STEPPED = numbers("number place ended next tag key_offset key_size offset size")
+VALUE = numbers("number place tag bits offset size offset2 size2")
+WRITTEN = numbers("number used")
+WRITER = type("Writer", (ctypes.Structure,), {"_fields_": [("words", c_uint32 * 406)]})
+
+# kinds of arguments: bytes and their size, bytes of a known size, a state and a buffer to write in; numbers of 64 bits, of 32 or one, and of 8
+SLICE, ARRAY, STATE, OUT, WHOLE, HALF, BYTE = "slice", "array", "state", "out", "whole", "half", "byte"
+PASSED = {SLICE: (c_void_p, c_size_t), ARRAY: (c_void_p,), STATE: (c_void_p,), OUT: (c_void_p, c_size_t)}
+CALL = (WRITTEN, STATE, OUT)
+FUNCTIONS = {
+    "check": (VERDICT, SLICE),
+    "check_strict": (VERDICT, SLICE),
+    "is_empty": (VERDICT, SLICE),
+    "lookup": (FOUND, SLICE, SLICE),
+    "lookup_typed": (FOUND, SLICE, SLICE, BYTE),
+    "step": (STEPPED, SLICE, WHOLE, HALF),
+    "read": (VALUE, SLICE, WHOLE),
+    "join": (JOINED, SLICE, SLICE, OUT),
+    "writer_new": (WRITER,),
+    "writer_open": CALL,
+    "writer_open_document": (*CALL, SLICE),
+    "writer_open_array": (*CALL, SLICE),
+    "writer_close": CALL,
+    "append_double": (*CALL, SLICE, WHOLE),
+    "append_bool": (*CALL, SLICE, HALF),
+    "append_int32": (*CALL, SLICE, HALF),
+    "append_int64": (*CALL, SLICE, WHOLE),
+    "append_datetime": (*CALL, SLICE, WHOLE),
+    "append_timestamp": (*CALL, SLICE, HALF, HALF),
+    "append_null": (*CALL, SLICE),
+    "append_undefined": (*CALL, SLICE),
+    "append_min_key": (*CALL, SLICE),
+    "append_max_key": (*CALL, SLICE),
+    "append_string": (*CALL, SLICE, SLICE),
+    "append_code": (*CALL, SLICE, SLICE),
+    "append_symbol": (*CALL, SLICE, SLICE),
+    "append_binary": (*CALL, SLICE, BYTE, SLICE),
+    "append_regex": (*CALL, SLICE, SLICE, SLICE),
+    "append_dbpointer": (*CALL, SLICE, SLICE, ARRAY),
+    "append_object_id": (*CALL, SLICE, ARRAY),
+    "append_decimal128": (*CALL, SLICE, ARRAY),
+}
+# the words of a session whose function is not named `append_` and the word
+NAMED = {"open": "writer_open", "close": "writer_close", "document": "writer_open_document", "array": "writer_open_array"}
+NAMED |= {"boolean": "append_bool", "minkey": "append_min_key", "maxkey": "append_max_key", "objectid": "append_object_id"}
+GUARD = b"\xa5" * 8  # before and behind a buffer
+UPPER = 0xEEEEEEEE << 32  # what a caller in C may leave in the upper half of the register of a narrow number
+
+
+class End(bytes):
+    """The bytes of a long buffer from START on; those before are not lent, since no call may touch them."""
+
+    START = 2147483647 - 64
+
+
+class Area:
+    """Memory that is lent, up against a page that may not be touched: the program ends where it is."""
+
+    SIZE = 128 * mmap.PAGESIZE
+
+    def __init__(self):
+        self.pages = mmap.mmap(-1, self.SIZE + mmap.PAGESIZE)
+        self.end = ctypes.addressof(ctypes.c_char.from_buffer(self.pages)) + self.SIZE
+        if ctypes.CDLL(None).mprotect(c_void_p(self.end), c_size_t(mmap.PAGESIZE), 0):
+            sys.exit("a page can't be protected")
+
+    def lend(self, data):
+        self.pages[self.SIZE - len(data) : self.SIZE] = data
+        return self.end - len(data)
+
+
+class Library:
+    def __init__(self, archive):
+        with TemporaryDirectory() as folder:
+            shared = f"{folder}/fringewell.so"
+            subprocess.run(["cc", "-shared", "-o", shared, "-Wl,--whole-archive", archive, "-Wl,--no-whole-archive"], check=True)
+            loaded = ctypes.CDLL(shared)
+        self.functions = {name: loaded[f"fringewell_{name}"] for name in FUNCTIONS}
+        for name, (answer, *kinds) in FUNCTIONS.items():
+            self.functions[name].restype = answer
+            self.functions[name].argtypes = [t for kind in kinds for t in PASSED.get(kind, (c_uint64,))]
+        self.areas = [Area() for _ in range(max(map(len, FUNCTIONS.values())))]
+        self.spoil = lambda regions: None
+
+    def lend(self, kinds, held, near):
+        """Where each argument's bytes are lent, NULL where there are none; near, the buffer lies right behind what may be copied into it."""
+        at = {i: area.lend(data) if data else 0 for area, (i, data) in zip(self.areas, held.items())}
+        if near:
+            beside = sorted((i for i in held if kinds[i] != STATE), key=lambda i: kinds[i] == OUT)
+            address = self.areas[-1].lend(b"".join(held[i] for i in beside))
+            for i in beside:
+                at[i] = address
+                address += len(held[i])
+        return at
+
+    def call(self, name, *args, near=False):
+        """The bytes of what is returned, then those of the state and of the buffer with its guards."""
+        kinds = FUNCTIONS[name][1:]
+        held = {i: GUARD + arg + GUARD if kinds[i] == OUT else arg for i, arg in enumerate(args) if kinds[i] in PASSED}
+        at = self.lend(kinds, held, near)
+        passed = []
+        for i, (kind, arg) in enumerate(zip(kinds, args)):
+            if kind == OUT:
+                start = getattr(arg, "START", 0)
+                passed += at[i] + len(GUARD) - start, start + len(arg)
+            elif kind in PASSED:
+                passed += (at[i], len(arg))[: len(PASSED[kind])]
+            else:
+                passed.append(arg if kind == WHOLE else arg | UPPER)
+        answer = self.functions[name](*passed)
+        regions = [(ctypes.addressof(answer), ctypes.sizeof(answer)), *((at[i], len(held[i])) for i in held if kinds[i] in (STATE, OUT))]
+        self.spoil(regions)
+        return b"".join(ctypes.string_at(*region) for region in regions)
+
+
+# ---- questions: a function, its arguments, and the bytes that the rules make of its answer
+
+
+def packed(answer, *fields):
+    """A struct's bytes; fields that are not given are 0."""
+    return struct.pack(f"<{len(answer._fields_)}Q", *fields, *[0] * (len(answer._fields_) - len(fields)))
+
+
+def said(rule, *args):
+    try:
+        return rule(*args)
+    except Refused as r:
+        return r.number, r.place
+
+
+def verdict(rule, *args):
+    return 0, 0, rule(*args)
+
+
+def found(rule, *args):
+    e, _ = rule(*args)
+    return 0, e.place, e.tag, e.offset, e.size
+
+
+def stepped(s, offset, ended):
+    """The step, and the cursor behind it."""
+    try:
+        e = rules.step_from(s, offset, ended)
+    except Refused as r:
+        return r.number, r.place, 1, offset
+    if not e:
+        return 0, 0, 1, offset
+    return 0, e.place, 0, e.offset + e.size, e.tag, e.place + 1, len(e.key), e.offset, e.size
+
+
+def value(s, place):
+    e, (word, *content) = rules.read_at(s, place)
+    bits = 0
+    if e.tag in rules.NUMBERS or word == "binary":
+        bits = content.pop(0) % 2**64
+    elif word == "timestamp":
+        bits, content = content[0] + 2**32 * content[1], ()
+    return 0, 0, e.tag, bits, *content
+
+
+def question(name, rule, *args, asked):
+    return name, asked, packed(FUNCTIONS[name][0], *said(rule, *args))
+
+
+def yielded(s):
+    """The elements that steps yield before the end or a refusal."""
+    elements = []
+    try:
+        for e in rules.elements(s):
+            elements.append(e)
+    except Refused:
+        pass
+    return elements
+
+
+STRANGE = (0, 1, 2, 3, 2**31, 2**63, 2**64 - 1)  # offsets where no step begins
+
+
+def at_places(s, elements):
+    """From each offset that steps reach, the one where they end among them, and from others: the step with the mark and without, and the value."""
+    reached = [4, *(e.offset + e.size for e in elements)]
+    inside = [e.place + 1 for e in elements]
+    for offset in dict.fromkeys([*reached, *inside, max(len(s) - 1, 0), len(s), len(s) + 1, *STRANGE]):
+        for ended in (False, True):
+            yield question("step", stepped, s, offset, ended, asked=(s, offset, ended))
+        yield question("read", value, s, offset, asked=(s, offset))
+
+
+def lookups(s, elements, asks):
+    """Keys that are there, absent, empty, with a zero, and not UTF-8; each with the element's tag, others, and tags outside the table."""
+    tags = {e.key: e.tag for e in reversed(elements)}
+    keys = [*tags, *(key + b"\0" for key in [*tags][:1]), b"", b"absent", b"\0", b"\xff", *(key for _, key, *_ in asks)]
+    pairs = [(key, tag) for key in keys for tag in (tags.get(key, 0x10), 0x02 if tags.get(key) == 0x10 else 0x10, 0x00, 0x14)]
+    for key in dict.fromkeys(keys):
+        yield question("lookup", found, rules.get, s, key, asked=(s, key))
+    for key, tag in dict.fromkeys([*pairs, *(ask[1:] for ask in asks if ask[0] == "typed")]):
+        yield question("lookup_typed", found, rules.get_with, s, key, tag, asked=(s, key, tag))
+
+
+def about(s, asks=()):
+    """All questions about one document."""
+    yield question("check", verdict, rules.check, s, asked=(s,))
+    yield question("check_strict", verdict, rules.check, s, True, asked=(s,))
+    yield question("is_empty", verdict, rules.is_empty, s, asked=(s,))
+    elements = yielded(s)
+    yield from at_places(s, elements)
+    yield from lookups(s, elements, asks)
+
+
+# ---- slices of each size up to two blocks of 32 bytes and more, since bytes are scanned and copied in blocks; and of one that needs three bytes
+
+SIZES = (*range(72), 70000)
+
+
+def letters(n):
+    return bytes(0x61 + i % 26 for i in range(n))
+
+
+def sized_documents():
+    """Keys and texts, with a bad byte or a longer character at their end; and keys that differ in the first byte, in the last, and in size."""
+    for n in SIZES:
+        key = letters(n)
+        asks = gets(b"?" + key[1:], key[:-1] + b"?", letters(n + 1))
+        for end in (b"", "é".encode(), b"\xff", b"\xc3"):
+            t = key + end
+            yield doc(element(0x02, key, text(t)), element(0x0B, t, t + b"\0" + key + b"\0")), asks
+
+
+def sized_pairs():
+    for n in SIZES:
+        yield tuple(doc(element(0x02, "", text(letters(size)))) for size in (n, 71 - n))
+
+
+def sized_sessions():
+    """Every slice that a call takes, in the room that the call needs and in one byte less."""
+    for n in SIZES:
+        t = hexed(letters(n))
+        texts = [f"{word} {t} {t}" for word in ("string", "code", "symbol")]
+        others = [f"binary - 00 {t}", f"binary - 02 {t}", f"regex - {t} {t}", f"dbpointer - {t} {ID.hex()}"]
+        for call in [f"null {t}", f"document {t}", *texts, *others]:
+            _, writer = replayed(session(2**18, "open", call))
+            yield session(writer.used + writer.depth, "open", call)
+            yield session(writer.used + writer.depth - 1, "open", call)
+
+
+# ---- texts of two characters: what lies behind a character of each size is looked at
+
+
+def texts_of_two():
+    for row, end, second in product(ROWS, (0, 1), row_texts()):
+        t = bytes(byte[end] for byte in row) + bytes(second)
+        s = doc(element(0x02, "a", text(t)))
+        yield question("check", verdict, rules.check, s, asked=(s,))
+
+
+# ---- damaged copies
+
+
+def with_byte(dice, d):
+    i = dice.below(len(d))
+    return d[:i] + bytes([dice.below(256)]) + d[i + 1 :]
+
+
+def cut(dice, d):
+    return d[: dice.below(len(d))]
+
+
+def cut_and_closed(dice, d):
+    """Cut, with the length that is left and a zero at the end."""
+    return resized(d[:4] + d[4 : 4 + dice.below(len(d))] + b"\0")
+
+
+def with_length(dice, d):
+    """A length field one off, negative, huge or small; its own or a value's."""
+    fields = [e.offset + field for e in yielded(d) for field in FIELDS.get(e.tag, ()) if field < e.size]
+    where = dice.pick([0, *fields, *fields])
+    true = int.from_bytes(d[where : where + 4], "little")
+    n = dice.pick((true - 1, true + 1, -true, -1, 0, 1, 4, 5, len(d) - where, 2**31 - 1, 2**31 - 5, -(2**31), true << 8))
+    return d[:where] + le(n) + d[where + 4 :]
+
+
+def damaged(count):
+    dice = Dice(20261117)
+    listed = [d for d, _ in documents() if len(d) > 4]
+    for _ in range(count):
+        yield dice.pick((with_byte, cut, cut_and_closed, with_length, with_length))(dice, dice.pick(listed))
+
+
+# ---- joining
+
+
+def joined(first, second):
+    """Into the room that both need, one byte less, none, and more."""
+    exact = max(len(first) + len(second) - 5, 0)
+    for room in dict.fromkeys((exact, max(exact - 1, 0), 0, exact + 9)):
+        buffer = b"\xee" * room
+        fields, left = joining.join(first, second, buffer)
+        yield "join", (first, second, buffer), packed(JOINED, *fields) + GUARD + left + GUARD
+
+
+def telling_pairs():
+    """All pairs of document 01's bytes; a document that only the strict check refuses, and a beacon frame beside them."""
+    return product([*(d for d, _ in bytes_to_try()), keyed("a"), short_beacon()], repeat=2)
+
+
+def pairs_at_random(count):
+    """Of each kind, good or damaged before good or damaged, so many."""
+    dice = Dice(20261118)
+    numbers_of = {d: said(verdict, rules.check, d)[0] for d, _ in documents()}
+    good, bad = ([d for d, n in numbers_of.items() if (n > 0) == refused] for refused in (False, True))
+    for first, second in product((good, bad), repeat=2):
+        for _ in range(count):
+            yield dice.pick(first), dice.pick(second)
+
+
+# ---- sessions of the writer
+
+
+class Long:
+    """A writer's buffer about as long as the greatest room, by its end."""
+
+    def __init__(self, size):
+        self.size, self.end = size, bytearray(b"\xee" * (size - End.START))
+
+    def __len__(self):
+        return self.size
+
+    def __setitem__(self, where, new):
+        self.end[where.start - End.START : where.stop - End.START] = new
+
+    def __bytes__(self):
+        return End(self.end)
+
+
+def long_sessions():
+    """In a document that begins near the greatest room, in buffers that are shorter, as long and longer: calls that just fit, and that don't."""
+    for size, used in product(range(2147483646, 2147483650), range(2147483610, 2147483648)):
+        words = (used, 2, 0, writing.IN_DOCUMENT, End.START, writing.IN_DOCUMENT)
+        for call in ("null -", "int32 61 7", "string 61 6263", "document -", "array -", "close", "open"):
+            yield session(size, *(f"word {i} {n}" for i, n in enumerate(words)), call)
+
+
+def fresh(room):
+    writer = writing.Writer(0)
+    writer.buffer = Long(room) if room > End.START else bytearray(b"\xee" * room)
+    return writer
+
+
+def lent(writer):
+    return array("I", writer.words).tobytes(), bytes(writer.buffer)
+
+
+def argument(kind, field):
+    """What C passes for a field of a session's call."""
+    if kind in (SLICE, ARRAY):
+        return writing.unhex(field)
+    if kind == BYTE:
+        return int(field, 16)
+    return int(field) % (2**32 if kind == HALF else 2**64)
+
+
+def of_session(line):
+    """A session's calls, each with the state and the buffer that the rules leave before it."""
+    head, *calls = line.split("; ")
+    writer = fresh(int(head.split(" ")[1]))
+    yield "writer_new", (), lent(writer)[0]
+    for word, *fields in (call.split(" ") for call in calls):
+        if word == "word":
+            writer.words[int(fields[0])] = int(fields[1])
+            continue
+        name = NAMED.get(word, f"append_{word}")
+        before = after = lent(writer)
+        try:
+            writer.call(word, *fields)
+            answer, after = (0, writer.used), lent(writer)
+        except Refused as r:
+            answer = (r.number,)
+        args = map(argument, FUNCTIONS[name][3:], fields)
+        yield name, (*before, *args), packed(WRITTEN, *answer) + after[0] + GUARD + after[1] + GUARD
+
+
+def all_sessions():
+    return chain.from_iterable(of_session(line) for line in chain(writing.sessions(), sized_sessions(), long_sessions()))
+
+
+# ---- the comparison
+
+
+def shown(arg):
+    """Bytes in hexadecimal, a state without the zeros at its end."""
+    if not isinstance(arg, bytes):
+        return str(arg)
+    return (arg.rstrip(b"\0") if len(arg) == ctypes.sizeof(WRITER) else arg).hex() or "-"
+
+
+def in_words(name, memory):
+    """An answer's fields by their names, then the state and the buffer."""
+    answer, *kinds = FUNCTIONS[name]
+    if answer is WRITER:
+        return shown(memory)
+    fields = [f"{field} {n}" for (field, _), (n,) in zip(answer._fields_, struct.iter_unpack("<Q", memory[: ctypes.sizeof(answer)]))]
+    rest = memory[ctypes.sizeof(answer) :]
+    state = ctypes.sizeof(WRITER) if STATE in kinds else 0
+    return ", ".join([*fields, *(shown(part) for part in (rest[:state], rest[state:]) if part)])
+
+
+def report(name, args, answer, expected):
+    return f"differs: fringewell_{name}({', '.join(map(shown, args))})\n  library: {in_words(name, answer)}\n  rules:   {in_words(name, expected)}"
+
+
+def differing(library, questions):
+    """The questions whose answer differs. A call that copies is made with its bytes far apart and with them near each other."""
+    for name, args, expected in questions:
+        for near in (False, True) if OUT in FUNCTIONS[name] else (False,):
+            answer = library.call(name, *args, near=near)
+            if answer != expected:
+                yield name, args, answer, expected
+                break
+
+
+def all_questions():
+    yield from chain.from_iterable(about(d, asks) for d, asks in chain(documents(), sized_documents()))
+    yield from chain.from_iterable(about(d) for d in damaged(3000))
+    yield from texts_of_two()
+    yield from chain.from_iterable(joined(*pair) for pair in chain(telling_pairs(), sized_pairs(), pairs_at_random(1000)))
+    yield from all_sessions()
+
+
+def compare(library):
+    """Whether all answers are alike; and of each function and number the first question."""
+    asked = differ = 0
+    firsts = {}
+    for q in all_questions():
+        asked += 1
+        firsts.setdefault((q[0], q[2][0]), q)
+        for difference in differing(library, [q]):
+            differ += 1
+            if differ <= 5:
+                print(report(*difference))
+    print(f"{asked - differ} answers of the library as document 01's rules say, {differ} differ")
+    return differ == 0, firsts
+
+
+# ---- the tool itself
+
+# the numbers by which each function can refuse
+REFUSALS = {
+    "check": NUMBERS["check"],
+    "check_strict": NUMBERS["strict"],
+    "is_empty": NUMBERS["empty"],
+    "lookup": NUMBERS["get"],
+    "lookup_typed": NUMBERS["typed"],
+    "step": NUMBERS["admission"] | NUMBERS["at"],
+    "read": NUMBERS["admission"] | NUMBERS["at"] | NUMBERS["value"] | {16},
+    "join": NUMBERS["check"] | {14},
+    "writer_new": set(),
+} | {NAMED.get(word, f"append_{word}"): returned for word, returned in RETURNED.items()}
+
+
+def spoiling(n):
+    """Changes the n-th byte of an answer."""
+
+    def spoil(regions):
+        i = n
+        for address, size in regions:
+            if 0 <= i < size:
+                c_uint8.from_address(address + i).value ^= 1
+            i -= size
+
+    return spoil
+
+
+def try_bytes(library, firsts):
+    """Each byte of an answer is compared, whichever number it has."""
+    assert firsts.keys() == {(name, n) for name, refusals in REFUSALS.items() for n in {0, *refusals}}, firsts.keys()
+    tried = 0
+    for q in firsts.values():
+        for n in range(len(q[2])):
+            library.spoil = spoiling(n)
+            tried += 1
+            if not any(differing(library, [q])):
+                sys.exit(f"not reported: byte {n} of the answer changed in {report(*q, q[2])}")
+    library.spoil = lambda regions: None
+    return tried
+
+
+def zero_tag_ends(s, offset, right=rules.step):
+    rules.admit(s)
+    return None if s[offset : offset + 1] == b"\0" and offset >= 4 else right(s, offset)
+
+
+def swallowing_ends(s, offset, right=rules.step):
+    rules.admit(s)
+    return None if offset == len(s) else right(s, offset)
+
+
+def tag_first(s, place, right=rules.element):
+    rules.unless(s[place] in rules.FIXED or s[place] in rules.FRAMED, 7)
+    return right(s, place)
+
+
+def scope_of_14(v, right=rules.scope):
+    rules.unless(right(v) >= 14, 12)
+    return right(v)
+
+
+def last_match(s, key, right=rules.get):
+    matches = [e for e in yielded(s) if e.key == key]
+    return (matches[-1], rules.value_of(s, matches[-1])) if matches else right(s, key)
+
+
+def second_first(first, second, buffer, right=joining.join):
+    return right(second, first, buffer)
+
+
+# document 01's "Errors a quick port would make", and some more
+WRONG_READING = {
+    "a zero met as a tag ends": patch.object(rules, "step", zero_tag_ends),
+    "a value that swallows the terminator ends": patch.object(rules, "step", swallowing_ends),
+    "a short code with scope is not framed": patch.dict(rules.FRAMED, {0x0F: scope_of_14}),
+    "the tag is tested before the key": patch.object(rules, "element", tag_first),
+    "the last match is found": patch.object(rules, "get", last_match),
+    "a scope lies one deeper": patch.dict(rules.OPENS, codewithscope=1),
+    "every text is UTF-8": patch.object(rules, "is_utf8", lambda v: True),
+}
+WRONG_JOINING = {
+    "the second is first": patch.object(joining, "join", second_first),
+    "the strict check is made": patch.object(joining, "check", lambda s: rules.check(s, True)),
+    "the room is the greater of the two": patch.object(joining, "min", max, create=True),
+}
+WRONG_WRITING = {
+    "the room is one more": patch.object(writing.Writer, "room", property(lambda writer: len(writer.buffer) + 1)),
+    "the greatest room is one more": patch.object(writing.Writer, "room", property(lambda writer: min(len(writer.buffer), 2147483648))),
+    "old binary has no inner length": patch.dict(writing.VALUES, binary=(0x05, lambda subtype, data: writing.binary("00", data))),
+    "an array's first key is 1": patch.dict(writing.NESTS, array=(0x04, 1)),
+}
+
+
+def some_reading():
+    return chain.from_iterable(about(d) for d, _ in documents()[::5])
+
+
+def all_telling():
+    return chain.from_iterable(joined(*pair) for pair in telling_pairs())
+
+
+def try_rules(library):
+    """A wrong rule shows as a difference."""
+    for questions, rules_of in ((some_reading, WRONG_READING), (all_telling, WRONG_JOINING), (all_sessions, WRONG_WRITING)):
+        for what, wrong in rules_of.items():
+            with wrong:
+                if not any(differing(library, questions())):
+                    sys.exit(f"not reported: {what}")
+    return len(WRONG_READING | WRONG_JOINING | WRONG_WRITING)
+
+
+def main():
+    if len(sys.argv) != 2:
+        sys.exit(__doc__)
+    faulthandler.enable()
+    library = Library(sys.argv[1])
+    alike, firsts = compare(library)
+    if not alike:
+        sys.exit(1)
+    print(f"each of {try_bytes(library, firsts)} changed bytes of an answer is reported, and each of {try_rules(library)} wrong rules")
+
+
+if __name__ == "__main__":
+    main()
