@@ -3,7 +3,6 @@ use Rattle.bson.specs.Writer.{appended}
 use Rattle.laws.proofs.AnswerLaws.{answered}
 use Rattle.writer_state.specs.Said.{said}
 use Rattle.appending.specs.Refusal.{appending}
-use borrow.Author.Needs.{needs}
 use Rattle.appending.proofs.append.Statement.{statement}
 use Rattle.appending.proofs.append.Tie as tie
 
@@ -14,7 +13,7 @@ innermost-requires : tie.Need-innermost-requires
 innermost-requires c κs = tt
 
 enum-known-kind : tie.Need-enum-known-kind
-enum-known-kind c = search needs
+enum-known-kind c = c .match .keys1
 
 append-in-requires : tie.Need-append-in-requires
 append-in-requires c κs =
@@ -22,13 +21,13 @@ append-in-requires c κs =
     (i .before .before .room-of .ensures, answered said (i .innermost .ensures) (c .before .before .before .kind .given .1))
 
 enum-known-n : tie.Need-enum-known-n
-enum-known-n c = search needs
+enum-known-n c = c .match .keys2
 
 same-length : tie.Need-same-length
-same-length c = search needs
+same-length c = c .before .before .append-in .kept .0
 
 returns : tie.Need-returns
-returns c = search needs
+returns c = c .before .before .append-in .ensures
 
 returns-2 : tie.Need-returns-2
 unfolding appending appended

@@ -1,6 +1,5 @@
 -- `appending::append_in` meets its contract: refused by the number, or its runs are the element. Assumes nothing.
 use Rattle.appending.proofs.Element.{left-open, few, grows, refused, done}
-use borrow.Author.Needs.{needs}
 use Rattle.appending.proofs.append_in.Statement.{statement}
 use Rattle.appending.proofs.append_in.Tie as tie
 
@@ -35,7 +34,7 @@ grow-requires c κs =
     ((g, left-open _ (s .args .out .now) _ _ (s .pre .0) (s .pre .1) .0, k .0), k .1)
 
 same-length : tie.Need-same-length
-same-length c = search needs
+same-length c = c .before .before .before .before .put-element .kept .0
 
 returns : tie.Need-returns
 returns c =

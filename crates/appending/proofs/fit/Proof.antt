@@ -6,7 +6,6 @@ use native.Mathlib.Omega.{arith}
 use lib.Dec.{leb}
 use borrow.Author.Tests.{leb-true, leb-false, le-leb, lt-leb}
 use Rattle.laws.proofs.Common.{split}
-use borrow.Author.Needs.{needs}
 use Rattle.appending.proofs.fit.Statement.{statement}
 use Rattle.appending.proofs.fit.Tie as tie
 
@@ -27,28 +26,28 @@ returns-2 : tie.Need-returns-2
 returns-2 c = let a = c .before .before .args in too-much (a .left) (a .head) (a .p) (a .q) (a .r) (a .s) (omega arith)
 
 sub-if3 : tie.Need-sub-if3
-sub-if3 c = search needs
+sub-if3 c = omega arith
 
 returns-3 : tie.Need-returns-3
 returns-3 c = let a = c .before .before .before .args in too-much (a .left) (a .head) (a .p) (a .q) (a .r) (a .s) (omega arith)
 
 sub-if4 : tie.Need-sub-if4
-sub-if4 c = search needs
+sub-if4 c = omega arith
 
 sub-if4-2 : tie.Need-sub-if4-2
-sub-if4-2 c = search needs
+sub-if4-2 c = omega arith
 
 returns-4 : tie.Need-returns-4
 returns-4 c = let a = c .before .before .before .before .args in too-much (a .left) (a .head) (a .p) (a .q) (a .r) (a .s) (omega arith)
 
 sub-result : tie.Need-sub-result
-sub-result c = search needs
+sub-result c = omega arith
 
 sub-result-2 : tie.Need-sub-result-2
-sub-result-2 c = search needs
+sub-result-2 c = omega arith
 
 sub-result-3 : tie.Need-sub-result-3
-sub-result-3 c = search needs
+sub-result-3 c = omega arith
 
 returns-5 : tie.Need-returns-5
 returns-5 c = let a = c .before .before .before .before .args in just-left (a .left) (a .head) (a .p) (a .q) (a .r) (a .s) (omega arith)

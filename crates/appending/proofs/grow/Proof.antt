@@ -1,9 +1,9 @@
 -- `appending::grow` meets its contract: each way out by the kind. Assumes nothing.
 use native.Mathlib.Omega.{arith}
+use lib.Dec.{lit<}
 use borrow.Author.Tests.{leb-true}
 use Rattle.bson.specs.Writer.{kindHolds, grown}
 use Rattle.writer_state.specs.Said.{saidKind}
-use borrow.Author.Needs.{needs}
 use Rattle.appending.proofs.grow.Statement.{statement}
 use Rattle.appending.proofs.grow.Tie as tie
 
@@ -11,22 +11,22 @@ depth-requires : tie.Need-depth-requires
 depth-requires c κs = tt
 
 sub-last : tie.Need-sub-last
-sub-last c = search needs
+sub-last c = omega arith
 
 cast-words : tie.Need-cast-words
-cast-words c = search needs
+cast-words c = omega arith
 
 element-copy-out-words : tie.Need-element-copy-out-words
-element-copy-out-words c = search needs
+element-copy-out-words c = lit< tt
 
 add-words : tie.Need-add-words
-add-words c = search needs
+add-words c = omega arith
 
 element-write-words : tie.Need-element-write-words
-element-write-words c = search needs
+element-write-words c = lit< tt
 
 enum-known-kind : tie.Need-enum-known-kind
-enum-known-kind c = search needs
+enum-known-kind c = c .match .keys1
 
 add-words-2 : tie.Need-add-words-2
 unfolding kindHolds saidKind
@@ -35,19 +35,19 @@ add-words-2 c =
     omega (arith, leb-true (c .before .kind .given .0 .0) 2147483647 h)
 
 mul-words : tie.Need-mul-words
-mul-words c = search needs
+mul-words c = omega arith
 
 add-words-3 : tie.Need-add-words-3
-add-words-3 c = search needs
+add-words-3 c = omega arith
 
 mul-words-2 : tie.Need-mul-words-2
-mul-words-2 c = search needs
+mul-words-2 c = omega arith
 
 element-write-words-2 : tie.Need-element-write-words-2
-element-write-words-2 c = search needs
+element-write-words-2 c = omega arith
 
 enum-told : tie.Need-enum-told
-enum-told c = search needs
+enum-told c = c .match .keys2
 
 returns : tie.Need-returns
 unfolding grown saidKind

@@ -1,18 +1,17 @@
 -- `appending::key_passes` meets its contract: a key by its kind. Assumes nothing.
 use Rattle.bson.specs.Writer.{keyPasses}
 use Rattle.writer_state.specs.Said.{saidKind}
-use borrow.Author.Needs.{needs}
 use Rattle.appending.proofs.key_passes.Statement.{statement}
 use Rattle.appending.proofs.key_passes.Tie as tie
 
 enum-told : tie.Need-enum-told
-enum-told c = search needs
+enum-told c = c .match .keys1
 
 is-valid-cstr-requires : tie.Need-is-valid-cstr-requires
 is-valid-cstr-requires c κs = tt
 
 enum-told-2 : tie.Need-enum-told-2
-enum-told-2 c = search needs
+enum-told-2 c = c .match .keys2
 
 returns : tie.Need-returns
 unfolding keyPasses saidKind

@@ -4,18 +4,17 @@ use native.Mathlib.Omega.{arith}
 use Rattle.bson.specs.Writer.{keyIn}
 use Rattle.laws.proofs.DecimalLaws.{length-decimal}
 use Rattle.writer_state.specs.Said.{saidKind}
-use borrow.Author.Needs.{needs}
 use Rattle.appending.proofs.key_size.Statement.{statement}
 use Rattle.appending.proofs.key_size.Tie as tie
 
 enum-told : tie.Need-enum-told
-enum-told c = search needs
+enum-told c = c .match .keys1
 
 enum-known-kind : tie.Need-enum-known-kind
-enum-known-kind c = search needs
+enum-known-kind c = c .match .keys2
 
 cast-width-of : tie.Need-cast-width-of
-cast-width-of c = search needs
+cast-width-of c = omega arith
 
 width-of-requires : tie.Need-width-of-requires
 width-of-requires c κs = tt

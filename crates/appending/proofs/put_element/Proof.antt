@@ -1,11 +1,12 @@
 -- `appending::put_element` meets its contract: one text behind the other. Assumes nothing.
+use mathlib.Core.Path.{refl}
 use Rattle.laws.proofs.OutputLaws.{then-put}
 use borrow.Author.Needs.{needs}
 use Rattle.appending.proofs.put_element.Statement.{statement}
 use Rattle.appending.proofs.put_element.Tie as tie
 
 slice-aggregate-put-text : tie.Need-slice-aggregate-put-text
-slice-aggregate-put-text c = search needs
+slice-aggregate-put-text c = refl
 
 put-text-requires : tie.Need-put-text-requires
 put-text-requires c κs = tt
@@ -14,7 +15,7 @@ put-key-requires : tie.Need-put-key-requires
 put-key-requires c κs = tt
 
 slice-aggregate-put-text-2 : tie.Need-slice-aggregate-put-text-2
-slice-aggregate-put-text-2 c = search needs
+slice-aggregate-put-text-2 c = refl
 
 put-text-requires-2 : tie.Need-put-text-requires-2
 put-text-requires-2 c κs = tt

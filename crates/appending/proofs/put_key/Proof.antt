@@ -1,34 +1,34 @@
 -- `appending::put_key` meets its contract: a key by its kind. Assumes nothing.
+use native.Mathlib.Omega.{arith}
 use Rattle.bson.specs.Writer.{keyIn}
 use Rattle.writer_state.specs.Said.{saidKind}
-use borrow.Author.Needs.{needs}
 use Rattle.appending.proofs.put_key.Statement.{statement}
 use Rattle.appending.proofs.put_key.Tie as tie
 
 enum-told : tie.Need-enum-told
-enum-told c = search needs
+enum-told c = c .match .keys1
 
 put-text-requires : tie.Need-put-text-requires
 put-text-requires c κs = tt
 
 enum-known-kind : tie.Need-enum-known-kind
-enum-known-kind c = search needs
+enum-known-kind c = c .match .keys2
 
 cast-put-decimal : tie.Need-cast-put-decimal
-cast-put-decimal c = search needs
+cast-put-decimal c = omega arith
 
 put-decimal-requires : tie.Need-put-decimal-requires
 put-decimal-requires c κs = tt
 
 same-length : tie.Need-same-length
-same-length c = search needs
+same-length c = c .before .before .put-text .kept .0
 
 returns : tie.Need-returns
 unfolding keyIn saidKind
 returns c = rw (c .before .before .before .before .enum-told .given .1) (c .before .before .put-text .ensures)
 
 same-length-2 : tie.Need-same-length-2
-same-length-2 c = search needs
+same-length-2 c = c .before .before .put-decimal .kept .0
 
 returns-2 : tie.Need-returns-2
 unfolding keyIn saidKind

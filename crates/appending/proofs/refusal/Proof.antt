@@ -4,12 +4,11 @@ use mathlib.Core.Path.{sym, ap, _∙_}
 use mathlib.Core.Bool.{Bool, cond}
 use native.Mathlib.Omega.{arith}
 use Rattle.appending.proofs.Cascade.{too-deep, not-in-order, room-decides}
-use borrow.Author.Needs.{needs}
 use Rattle.appending.proofs.refusal.Statement.{statement}
 use Rattle.appending.proofs.refusal.Tie as tie
 
 next-depth-requires : tie.Need-next-depth-requires
-next-depth-requires c κs = search needs
+next-depth-requires c κs = c .before .pre .0
 
 returns : tie.Need-returns
 returns c = too-deep _ _ _ _ _ _ _ _ (c .before .next-depth .ensures) (c .if1 .taken)
@@ -24,19 +23,19 @@ depth-requires : tie.Need-depth-requires
 depth-requires c κs = tt
 
 add-left : tie.Need-add-left
-add-left c = search needs
+add-left c = omega arith
 
 sub-left : tie.Need-sub-left
-sub-left c = search needs
+sub-left c = omega arith
 
 key-size-requires : tie.Need-key-size-requires
 key-size-requires c κs = tt
 
 add-fit : tie.Need-add-fit
-add-fit c = search needs
+add-fit c = omega arith
 
 add-fit-2 : tie.Need-add-fit-2
-add-fit-2 c = search needs
+add-fit-2 c = omega arith
 
 fit-requires : tie.Need-fit-requires
 fit-requires c κs = tt

@@ -3,7 +3,6 @@ use native.Mathlib.Omega.{arith}
 use Rattle.laws.proofs.AnswerLaws.{answered}
 use Rattle.writer_state.specs.Said.{said}
 use Rattle.nesting.proofs.Turns.{close-refused, closable, ends-within, close-done}
-use borrow.Author.Needs.{needs}
 use Rattle.nesting.proofs.close.Statement.{statement}
 use Rattle.nesting.proofs.close.Tie as tie
 
@@ -14,7 +13,7 @@ innermost-requires : tie.Need-innermost-requires
 innermost-requires c κs = tt
 
 enum-told : tie.Need-enum-told
-enum-told c = search needs
+enum-told c = c .match .keys1
 
 used-requires : tie.Need-used-requires
 used-requires c κs = tt
@@ -44,10 +43,10 @@ pop-requires c κs =
     (closable _ o _ (i .before .before .room-of .ensures) _ e .0, ends-within _ o _ (i .before .before .room-of .ensures) _ e .2)
 
 enum-known-n : tie.Need-enum-known-n
-enum-known-n c = search needs
+enum-known-n c = c .match .keys2
 
 same-length : tie.Need-same-length
-same-length c = search needs
+same-length c = c .before .before .before .before .seal .kept .0
 
 returns : tie.Need-returns
 returns c =

@@ -1,7 +1,6 @@
 -- `nesting::open_document` meets its contract: the tag and the mark of a document. Assumes nothing.
 use Rattle.bson.specs.Writer.{openedIn, answer, performed}
 use Rattle.nesting.specs.Opened.{openedAs}
-use borrow.Author.Needs.{needs}
 use Rattle.nesting.proofs.open_document.Statement.{statement}
 use Rattle.nesting.proofs.open_document.Tie as tie
 
@@ -9,7 +8,7 @@ open-in-requires : tie.Need-open-in-requires
 open-in-requires c κs = tt
 
 same-length : tie.Need-same-length
-same-length c = search needs
+same-length c = c .before .before .open-in .kept .0
 
 returns : tie.Need-returns
 unfolding performed answer openedIn openedAs

@@ -1,7 +1,8 @@
 -- `nesting::open_top` meets its contract: each way out by the test that led there. Assumes nothing.
+use mathlib.Core.Path.{refl}
+use lib.Dec.{lit<}
 use Rattle.bson.specs.Grammar.{bytes32}
 use Rattle.nesting.proofs.Turns.{top-impossible, top-twice, top-narrow, top-ready, top-done}
-use borrow.Author.Needs.{needs}
 use Rattle.nesting.proofs.open_top.Statement.{statement}
 use Rattle.nesting.proofs.open_top.Tie as tie
 
@@ -22,13 +23,13 @@ returns c =
     (c .before .if2 .taken) (c .if3 .taken)
 
 slice-aggregate-put-text : tie.Need-slice-aggregate-put-text
-slice-aggregate-put-text c = search needs
+slice-aggregate-put-text c = refl
 
 put-text-requires : tie.Need-put-text-requires
 put-text-requires c κs = tt
 
 element-write-words : tie.Need-element-write-words
-element-write-words c = search needs
+element-write-words c = lit< tt
 
 push-requires : tie.Need-push-requires
 push-requires c κs =
@@ -38,7 +39,7 @@ push-requires c κs =
     (d .before .before .if1 .taken) _ (d .depth .ensures .0) (c .before .before .before .before .before .before .before .if2 .taken)
 
 same-length : tie.Need-same-length
-same-length c = search needs
+same-length c = c .before .before .before .before .put-text .kept .0
 
 returns-2 : tie.Need-returns-2
 unfolding bytes32

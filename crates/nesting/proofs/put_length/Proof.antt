@@ -8,7 +8,6 @@ use Rattle.bson.specs.Grammar.{bytes32}
 use Rattle.bson.specs.Output.{Output, output, putText}
 use Rattle.laws.proofs.GrammarLaws.{length-bytes32}
 use Rattle.laws.proofs.OutputLaws.{text-fits}
-use borrow.Author.Needs.{needs}
 use Rattle.nesting.proofs.put_length.Statement.{statement}
 use Rattle.nesting.proofs.put_length.Tie as tie
 
@@ -16,13 +15,13 @@ bytes32-requires : tie.Need-bytes32-requires
 bytes32-requires c κs = tt
 
 slice-aggregate-put-text : tie.Need-slice-aggregate-put-text
-slice-aggregate-put-text c = search needs
+slice-aggregate-put-text c = omega arith
 
 put-text-requires : tie.Need-put-text-requires
 put-text-requires c κs = tt
 
 same-length : tie.Need-same-length
-same-length c = search needs
+same-length c = c .before .before .put-text .kept .0
 
 returns : tie.Need-returns
 returns c =

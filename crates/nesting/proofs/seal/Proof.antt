@@ -1,32 +1,31 @@
 -- `nesting::seal` meets its contract: the zero fits, and then the length. Assumes nothing.
-use mathlib.Core.Path.{ap, _∙_}
+use mathlib.Core.Path.{ap, _∙_, refl}
 use Prim.Native.Nat.{ℕ, _+_, _-_}
 use mathlib.Core.List.{List, [], _∷_}
 use native.Mathlib.Omega.{arith}
 use Rattle.bson.specs.Grammar.{bytes32}
 use Rattle.bson.specs.Output.{Output, put}
 use Rattle.laws.proofs.OutputLaws.{text-fits}
-use borrow.Author.Needs.{needs}
 use Rattle.nesting.proofs.seal.Statement.{statement}
 use Rattle.nesting.proofs.seal.Tie as tie
 
 slice-aggregate-put-text : tie.Need-slice-aggregate-put-text
-slice-aggregate-put-text c = search needs
+slice-aggregate-put-text c = refl
 
 put-text-requires : tie.Need-put-text-requires
 put-text-requires c κs = tt
 
 add-put-length : tie.Need-add-put-length
-add-put-length c = search needs
+add-put-length c = omega arith
 
 sub-put-length : tie.Need-sub-put-length
-sub-put-length c = search needs
+sub-put-length c = omega arith
 
 put-length-requires : tie.Need-put-length-requires
-put-length-requires c κs = search needs
+put-length-requires c κs = omega arith
 
 same-length : tie.Need-same-length
-same-length c = search needs
+same-length c = c .before .before .put-length .kept .0 ∙ c .before .before .before .before .before .before .put-text .kept .0
 
 returns : tie.Need-returns
 returns c =

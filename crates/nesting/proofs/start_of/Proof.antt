@@ -1,8 +1,8 @@
 -- `nesting::start_of` meets its contract: the word is the definition's. Assumes nothing.
 use mathlib.Core.Path.{_∙_, ap}
 use Prim.Native.Nat.{ℕ, _+_, _*_, _-_}
+use native.Mathlib.Omega.{arith}
 use lib.ListN.{getD}
-use borrow.Author.Needs.{needs}
 use Rattle.nesting.proofs.start_of.Statement.{statement}
 use Rattle.nesting.proofs.start_of.Tie as tie
 
@@ -10,19 +10,19 @@ depth-requires : tie.Need-depth-requires
 depth-requires c κs = tt
 
 sub-wide : tie.Need-sub-wide
-sub-wide c = search needs
+sub-wide c = omega arith
 
 mul-wide : tie.Need-mul-wide
-mul-wide c = search needs
+mul-wide c = omega arith
 
 add-wide : tie.Need-add-wide
-add-wide c = search needs
+add-wide c = omega arith
 
 mul-wide-2 : tie.Need-mul-wide-2
-mul-wide-2 c = search needs
+mul-wide-2 c = omega arith
 
 element-copy-out-wide : tie.Need-element-copy-out-wide
-element-copy-out-wide c = search needs
+element-copy-out-wide c = omega arith
 
 wide-requires : tie.Need-wide-requires
 wide-requires c κs = tt

@@ -2,21 +2,20 @@
 use Rattle.bson.specs.Value.{elementAt}
 use Rattle.laws.proofs.AnswerLaws.{answered}
 use Rattle.iter.specs.Said as step
-use borrow.Author.Needs.{needs}
 use Rattle.reading.proofs.locate.Statement.{statement}
 use Rattle.reading.proofs.locate.Tie as tie
 
 next-requires : tie.Need-next-requires
-next-requires c κs = search needs
+next-requires c κs = tt
 
 enum-known-number : tie.Need-enum-known-number
-enum-known-number c = search needs
+enum-known-number c = c .match .keys1
 
 enum-told : tie.Need-enum-told
-enum-told c = search needs
+enum-told c = c .match .keys2
 
 enum-known-element : tie.Need-enum-known-element
-enum-known-element c = search needs
+enum-known-element c = c .match .keys3
 
 returns : tie.Need-returns
 unfolding elementAt

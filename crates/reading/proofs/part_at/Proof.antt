@@ -1,30 +1,29 @@
 -- `reading::part_at` meets its contract: a part of what its twin reads, else nothing. Assumes nothing.
-use mathlib.Core.Path.{ap, _∙_}
+use mathlib.Core.Path.{ap, _∙_, refl}
 use Rattle.bson.specs.Bytes.{bytes}
 use Rattle.bson.specs.Value.{partAt}
 use Rattle.laws.proofs.AnswerLaws.{answered}
 use Rattle.reading.specs.Said.{said}
-use borrow.Author.Needs.{needs}
 use Rattle.reading.proofs.part_at.Statement.{statement}
 use Rattle.reading.proofs.part_at.Tie as tie
 
 read-with-requires : tie.Need-read-with-requires
-read-with-requires c κs = search needs
+read-with-requires c κs = tt
 
 enum-told : tie.Need-enum-told
-enum-told c = search needs
+enum-told c = c .match .keys1
 
 slice-aggregate-result : tie.Need-slice-aggregate-result
-slice-aggregate-result c = search needs
+slice-aggregate-result c = refl
 
 enum-known-value : tie.Need-enum-known-value
-enum-known-value c = search needs
+enum-known-value c = c .match .keys2
 
 part-of-requires : tie.Need-part-of-requires
-part-of-requires c κs = search needs
+part-of-requires c κs = tt
 
 bytes-of-requires : tie.Need-bytes-of-requires
-bytes-of-requires c κs = search needs
+bytes-of-requires c κs = tt
 
 returns : tie.Need-returns
 unfolding partAt

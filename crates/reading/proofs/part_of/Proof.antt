@@ -1,18 +1,17 @@
 -- `reading::part_of` meets its contract: the one of the two parts that is asked for. Assumes nothing.
 use mathlib.Core.Path.{ap}
 use Rattle.bson.specs.Bytes.{Part}
-use borrow.Author.Needs.{needs}
 use Rattle.reading.proofs.part_of.Statement.{statement}
 use Rattle.reading.proofs.part_of.Tie as tie
 
 parts-of-requires : tie.Need-parts-of-requires
-parts-of-requires c κs = search needs
+parts-of-requires c κs = tt
 
 enum-told : tie.Need-enum-told
-enum-told c = search needs
+enum-told c = c .match .keys1
 
 enum-told-2 : tie.Need-enum-told-2
-enum-told-2 c = search needs
+enum-told-2 c = c .match .keys2
 
 returns : tie.Need-returns
 returns c = rw (c .before .enum-told .given .1) (ap (λ (p : Part × Part). p .0) (c .before .before .before .parts-of .ensures))

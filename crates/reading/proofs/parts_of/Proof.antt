@@ -1,71 +1,70 @@
 -- `reading::parts_of` meets its contract: case by case. Assumes nothing.
 use Rattle.bson.specs.Value.{partsOf}
-use borrow.Author.Needs.{needs}
 use Rattle.reading.proofs.parts_of.Statement.{statement}
 use Rattle.reading.proofs.parts_of.Tie as tie
 
 enum-told : tie.Need-enum-told
-enum-told c = search needs
+enum-told c = c .match .keys1
 
 enum-known-value : tie.Need-enum-known-value
-enum-known-value c = search needs
+enum-known-value c = c .match .keys2
 
 enum-known-value-2 : tie.Need-enum-known-value-2
-enum-known-value-2 c = search needs
+enum-known-value-2 c = c .match .keys3
 
 enum-known-value-3 : tie.Need-enum-known-value-3
-enum-known-value-3 c = search needs
+enum-known-value-3 c = c .match .keys4
 
 enum-known-value-4 : tie.Need-enum-known-value-4
-enum-known-value-4 c = search needs
+enum-known-value-4 c = c .match .keys5
 
 enum-told-2 : tie.Need-enum-told-2
-enum-told-2 c = search needs
+enum-told-2 c = c .match .keys6
 
 enum-known-value-5 : tie.Need-enum-known-value-5
-enum-known-value-5 c = search needs
+enum-known-value-5 c = c .match .keys7
 
 enum-told-3 : tie.Need-enum-told-3
-enum-told-3 c = search needs
+enum-told-3 c = c .match .keys8
 
 enum-told-4 : tie.Need-enum-told-4
-enum-told-4 c = search needs
+enum-told-4 c = c .match .keys9
 
 enum-told-5 : tie.Need-enum-told-5
-enum-told-5 c = search needs
+enum-told-5 c = c .match .keys10
 
 enum-known-value-6 : tie.Need-enum-known-value-6
-enum-known-value-6 c = search needs
+enum-known-value-6 c = c .match .keys11
 
 enum-known-value-7 : tie.Need-enum-known-value-7
-enum-known-value-7 c = search needs
+enum-known-value-7 c = c .match .keys12
 
 enum-known-value-8 : tie.Need-enum-known-value-8
-enum-known-value-8 c = search needs
+enum-known-value-8 c = c .match .keys13
 
 enum-known-value-9 : tie.Need-enum-known-value-9
-enum-known-value-9 c = search needs
+enum-known-value-9 c = c .match .keys14
 
 enum-known-value-10 : tie.Need-enum-known-value-10
-enum-known-value-10 c = search needs
+enum-known-value-10 c = c .match .keys15
 
 enum-told-6 : tie.Need-enum-told-6
-enum-told-6 c = search needs
+enum-told-6 c = c .match .keys16
 
 enum-told-7 : tie.Need-enum-told-7
-enum-told-7 c = search needs
+enum-told-7 c = c .match .keys17
 
 enum-told-8 : tie.Need-enum-told-8
-enum-told-8 c = search needs
+enum-told-8 c = c .match .keys18
 
 enum-known-value-11 : tie.Need-enum-known-value-11
-enum-known-value-11 c = search needs
+enum-known-value-11 c = c .match .keys19
 
 enum-told-9 : tie.Need-enum-told-9
-enum-told-9 c = search needs
+enum-told-9 c = c .match .keys20
 
 enum-told-10 : tie.Need-enum-told-10
-enum-told-10 c = search needs
+enum-told-10 c = c .match .keys21
 
 returns : tie.Need-returns
 unfolding partsOf

@@ -2,21 +2,20 @@
 use Rattle.bson.specs.Value.{readAt}
 use Rattle.laws.proofs.AnswerLaws.{answered}
 use Rattle.reading.specs.Said.{saidLocated}
-use borrow.Author.Needs.{needs}
 use Rattle.reading.proofs.read_at.Statement.{statement}
 use Rattle.reading.proofs.read_at.Tie as tie
 
 locate-requires : tie.Need-locate-requires
-locate-requires c κs = search needs
+locate-requires c κs = tt
 
 enum-known-number : tie.Need-enum-known-number
-enum-known-number c = search needs
+enum-known-number c = c .match .keys1
 
 enum-known-element : tie.Need-enum-known-element
-enum-known-element c = search needs
+enum-known-element c = c .match .keys2
 
 value-of-requires : tie.Need-value-of-requires
-value-of-requires c κs = search needs
+value-of-requires c κs = tt
 
 returns : tie.Need-returns
 unfolding readAt

@@ -2,21 +2,20 @@
 use Rattle.bson.specs.Value.{readWith}
 use Rattle.laws.proofs.AnswerLaws.{answered}
 use Rattle.reading.specs.Said.{saidLocated}
-use borrow.Author.Needs.{needs}
 use Rattle.reading.proofs.read_with.Statement.{statement}
 use Rattle.reading.proofs.read_with.Tie as tie
 
 locate-requires : tie.Need-locate-requires
-locate-requires c κs = search needs
+locate-requires c κs = tt
 
 enum-known-number : tie.Need-enum-known-number
-enum-known-number c = search needs
+enum-known-number c = c .match .keys1
 
 enum-known-element : tie.Need-enum-known-element
-enum-known-element c = search needs
+enum-known-element c = c .match .keys2
 
 value-with-requires : tie.Need-value-with-requires
-value-with-requires c κs = search needs
+value-with-requires c κs = tt
 
 returns : tie.Need-returns
 unfolding readWith

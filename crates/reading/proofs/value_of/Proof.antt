@@ -2,18 +2,17 @@
 use Rattle.bson.specs.Value.{valueOf}
 use Rattle.laws.proofs.AnswerLaws.{answered}
 use Rattle.value.specs.Said as parsed
-use borrow.Author.Needs.{needs}
 use Rattle.reading.proofs.value_of.Statement.{statement}
 use Rattle.reading.proofs.value_of.Tie as tie
 
 parse-requires : tie.Need-parse-requires
-parse-requires c κs = search needs
+parse-requires c κs = tt
 
 enum-known-value : tie.Need-enum-known-value
-enum-known-value c = search needs
+enum-known-value c = c .match .keys1
 
 enum-known-number : tie.Need-enum-known-number
-enum-known-number c = search needs
+enum-known-number c = c .match .keys2
 
 returns : tie.Need-returns
 unfolding valueOf

@@ -2,18 +2,17 @@
 use borrow.Author.Tests.{eq-eqb, ne-eqb}
 use Rattle.laws.proofs.AnswerLaws.{answered}
 use Rattle.reading.specs.Said.{said}
-use borrow.Author.Needs.{needs}
 use Rattle.reading.proofs.value_with.Statement.{statement}
 use Rattle.reading.proofs.value_with.Tie as tie
 
 value-of-requires : tie.Need-value-of-requires
-value-of-requires c κs = search needs
+value-of-requires c κs = tt
 
 enum-known-number : tie.Need-enum-known-number
-enum-known-number c = search needs
+enum-known-number c = c .match .keys1
 
 enum-known-value : tie.Need-enum-known-value
-enum-known-value c = search needs
+enum-known-value c = c .match .keys2
 
 returns : tie.Need-returns
 returns c =

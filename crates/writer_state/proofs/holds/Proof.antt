@@ -1,15 +1,14 @@
 -- `writer_state::holds` meets its contract: a kind by its case. Assumes nothing.
-use borrow.Author.Needs.{needs}
 use Rattle.bson.specs.Writer.{kindHolds}
 use Rattle.writer_state.specs.Said.{saidKind}
 use Rattle.writer_state.proofs.holds.Statement.{statement}
 use Rattle.writer_state.proofs.holds.Tie as tie
 
 enum-told : tie.Need-enum-told
-enum-told c = search needs
+enum-told c = c .match .keys1
 
 enum-known-kind : tie.Need-enum-known-kind
-enum-known-kind c = search needs
+enum-known-kind c = c .match .keys2
 
 returns : tie.Need-returns
 unfolding kindHolds saidKind

@@ -3,7 +3,6 @@ use mathlib.Core.Path.{sym, _∙_}
 use native.Mathlib.Omega.{arith}
 use Rattle.laws.proofs.WriterLaws.{possible-says}
 use Rattle.writer_state.proofs.Tests.{innermost-told, nothing-open, impossible}
-use borrow.Author.Needs.{needs}
 use Rattle.writer_state.proofs.innermost.Statement.{statement}
 use Rattle.writer_state.proofs.innermost.Tie as tie
 
@@ -14,16 +13,16 @@ depth-requires : tie.Need-depth-requires
 depth-requires c κs = tt
 
 sub-kind-of : tie.Need-sub-kind-of
-sub-kind-of c = search needs
+sub-kind-of c = omega arith
 
 mul-kind-of : tie.Need-mul-kind-of
-mul-kind-of c = search needs
+mul-kind-of c = omega arith
 
 add-kind-of : tie.Need-add-kind-of
-add-kind-of c = search needs
+add-kind-of c = omega arith
 
 mul-kind-of-2 : tie.Need-mul-kind-of-2
-mul-kind-of-2 c = search needs
+mul-kind-of-2 c = omega arith
 
 element-copy-out-kind-of : tie.Need-element-copy-out-kind-of
 element-copy-out-kind-of c =

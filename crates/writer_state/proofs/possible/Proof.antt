@@ -1,7 +1,6 @@
 -- `writer_state::possible` meets its contract: each way out by the test that led there. Assumes nothing.
 use native.Mathlib.Omega.{arith}
 use Rattle.writer_state.proofs.Tests.{too-many, past-the-room, open-decide}
-use borrow.Author.Needs.{needs}
 use Rattle.writer_state.proofs.possible.Statement.{statement}
 use Rattle.writer_state.proofs.possible.Tie as tie
 
@@ -15,13 +14,13 @@ used-requires : tie.Need-used-requires
 used-requires c κs = tt
 
 add-if2 : tie.Need-add-if2
-add-if2 c = search needs
+add-if2 c = omega arith
 
 returns-2 : tie.Need-returns-2
 returns-2 c = past-the-room _ _ _ (c .before .before .before .depth .ensures .0) (omega arith) _ (c .before .used .ensures .0) (c .if2 .taken)
 
 stand-requires : tie.Need-stand-requires
-stand-requires c κs = search needs
+stand-requires c κs = omega arith
 
 returns-3 : tie.Need-returns-3
 returns-3 c =

@@ -1,24 +1,24 @@
 -- `writer_state::stands` meets its contract: each way out by the test that led there. Assumes nothing.
 use mathlib.Core.Path.{refl}
 use native.Mathlib.Omega.{arith}
+use lib.Dec.{lit<}
 use Rattle.laws.proofs.AnswerLaws.{answered}
 use Rattle.writer_state.specs.Said.{said}
 use Rattle.writer_state.proofs.Tests.{start-late, kind-holds}
-use borrow.Author.Needs.{needs}
 use Rattle.writer_state.proofs.stands.Statement.{statement}
 use Rattle.writer_state.proofs.stands.Tie as tie
 
 mul-start : tie.Need-mul-start
-mul-start c = search needs
+mul-start c = omega arith
 
 add-start : tie.Need-add-start
-add-start c = search needs
+add-start c = omega arith
 
 mul-start-2 : tie.Need-mul-start-2
-mul-start-2 c = search needs
+mul-start-2 c = omega arith
 
 element-copy-out-start : tie.Need-element-copy-out-start
-element-copy-out-start c = search needs
+element-copy-out-start c = omega arith
 
 returns : tie.Need-returns
 returns c = start-late _ _ _ (omega arith)
@@ -27,31 +27,31 @@ returns-2 : tie.Need-returns-2
 returns-2 c = start-late _ _ _ (omega arith)
 
 mul-kind-of : tie.Need-mul-kind-of
-mul-kind-of c = search needs
+mul-kind-of c = omega arith
 
 add-kind-of : tie.Need-add-kind-of
-add-kind-of c = search needs
+add-kind-of c = omega arith
 
 mul-kind-of-2 : tie.Need-mul-kind-of-2
-mul-kind-of-2 c = search needs
+mul-kind-of-2 c = omega arith
 
 element-copy-out-kind-of : tie.Need-element-copy-out-kind-of
-element-copy-out-kind-of c = search needs
+element-copy-out-kind-of c = omega arith
 
 kind-of-requires : tie.Need-kind-of-requires
 kind-of-requires c κs = tt
 
 enum-known-kind : tie.Need-enum-known-kind
-enum-known-kind c = search needs
+enum-known-kind c = c .match .keys1
 
 element-copy-out-holds : tie.Need-element-copy-out-holds
-element-copy-out-holds c = search needs
+element-copy-out-holds c = lit< tt
 
 holds-requires : tie.Need-holds-requires
 holds-requires c κs = tt
 
 enum-told : tie.Need-enum-told
-enum-told c = search needs
+enum-told c = c .match .keys2
 
 returns-3 : tie.Need-returns-3
 returns-3 c =
