@@ -1,4 +1,4 @@
-//! The plain whole check: a walk over the Rust's iteration and values, and the Rust's own walk beside it.
+//! The whole check: a walk over the Rust's iteration and values, and the Rust's own walk beside it.
 
 use bson::{Document, RawBsonRef, RawDocument, Utf8Lossy};
 
@@ -7,8 +7,16 @@ use crate::value::Reading;
 
 const MAX_DEPTH: u32 = 200;
 
+/// What the keys of arrays may be: the plain check takes any, the strict one (19) decimal digits.
+#[derive(Clone, Copy, PartialEq)]
+pub enum Keys {
+    Any,
+    Digits,
+}
+
 pub struct Walk<'a> {
     outer: &'a [u8],
+    keys: Keys,
     pub verdict: Result<(), Refusal>,
     pub count: usize,
     /// A value was met that only a stand-in accepted or refused.
@@ -17,23 +25,27 @@ pub struct Walk<'a> {
     pub differs: bool,
 }
 
-pub fn walk(doc: &RawDocument) -> Walk<'_> {
+pub fn walk(doc: &RawDocument, keys: Keys) -> Walk<'_> {
     let mut walk = Walk {
         outer: doc.as_bytes(),
+        keys,
         verdict: Ok(()),
         count: 0,
         judged: false,
         differs: false,
     };
-    walk.verdict = walk.inside(doc, 0);
+    walk.verdict = walk.inside(doc, Keys::Any, 0);
     walk
 }
 
 impl<'a> Walk<'a> {
     /// The values of a document, which have this depth, and those inside them.
-    fn inside(&mut self, doc: &'a RawDocument, depth: u32) -> Result<(), Refusal> {
+    fn inside(&mut self, doc: &'a RawDocument, keys: Keys, depth: u32) -> Result<(), Refusal> {
         for step in Steps::new(self.outer, doc) {
             let element = step?;
+            if keys == Keys::Digits && !is_digits(element.raw.key().as_str()) {
+                return Err(Refusal("added", element.place));
+            }
             let reading = Reading::of(&element);
             self.judged |= reading.judged;
             self.differs |= reading.differs;
@@ -43,9 +55,11 @@ impl<'a> Walk<'a> {
             }
             self.count += 1;
             match value {
-                RawBsonRef::Document(inner) => self.inside(inner, depth + 1)?,
-                RawBsonRef::Array(inner) => self.inside(inner.as_doc(), depth + 1)?,
-                RawBsonRef::JavaScriptCodeWithScope(code) => self.inside(code.scope, depth + 2)?,
+                RawBsonRef::Document(inner) => self.inside(inner, Keys::Any, depth + 1)?,
+                RawBsonRef::Array(inner) => self.inside(inner.as_doc(), self.keys, depth + 1)?,
+                RawBsonRef::JavaScriptCodeWithScope(code) => {
+                    self.inside(code.scope, Keys::Any, depth + 2)?
+                }
                 _ => {}
             }
         }
@@ -61,4 +75,8 @@ impl<'a> Walk<'a> {
         let deep = word(deep.err().map(|error| kind(&error)));
         (ours != "utf8" && ours != deep).then_some(deep)
     }
+}
+
+fn is_digits(key: &str) -> bool {
+    !key.is_empty() && key.bytes().all(|byte| byte.is_ascii_digit())
 }

@@ -1,19 +1,20 @@
 //! What the original Rust answers about a document: a case line in, a line of the list out.
 //! The numbers of refusals are missing: only document 01 gives them.
 
-mod check;
-mod lookup;
-mod step;
-mod value;
+pub mod check;
+pub mod lookup;
+pub mod step;
+pub mod value;
 
 use std::fmt::Display;
 use std::panic::{catch_unwind, AssertUnwindSafe};
 
 use bson::RawDocument;
 
+use check::Keys;
 use lookup::Question;
 use step::{kind, Element, Refusal, Steps};
-use value::{render, starred, Reading};
+use value::{starred, Content, Reading};
 
 /// The answer line to a case line `document HEX; get KEY; typed KEY TAG; ..`, or what is wrong with the case.
 /// Where the Rust panics the line ends with `panicked`; the message is the caller's to silence.
@@ -92,7 +93,7 @@ impl Line {
     fn element(&mut self, element: &Element) {
         let reading = Reading::of(element);
         let value = match reading.value {
-            Ok(value) => render(element, value),
+            Ok(value) => Content::of(element, value).to_string(),
             Err(kind) => Refusal(kind, element.place).to_string(),
         };
         let (place, raw) = (element.place, &element.raw);
@@ -105,7 +106,7 @@ impl Line {
     }
 
     fn check(&mut self, doc: &RawDocument) {
-        let walk = check::walk(doc);
+        let walk = check::walk(doc, Keys::Any);
         let verdict = match &walk.verdict {
             Ok(()) => walk.count.to_string(),
             Err(refusal) => refusal.to_string(),

@@ -5,7 +5,7 @@ use bson::{RawBsonRef as Value, RawDocument};
 
 use crate::bytes;
 use crate::step::{kind, Element, Kind, Refusal, Steps};
-use crate::value::{render, starred, Reading};
+use crate::value::{starred, Content, Reading};
 
 /// A part `get KEY`, or `typed KEY TAG` where there is a tag.
 pub struct Question<'c> {
@@ -41,7 +41,7 @@ impl<'c> Question<'c> {
         let answer = match answer {
             Ok(value) => {
                 let element = found.expect("a lookup answers what iteration yields");
-                format!("{place} {}", render(&element, value))
+                format!("{place} {}", Content::of(&element, value))
             }
             Err(kind) => Refusal(kind, place).to_string(),
         };
@@ -49,7 +49,12 @@ impl<'c> Question<'c> {
     }
 }
 
-fn call<'a>(doc: &'a RawDocument, key: &str, tag: Option<u8>) -> Option<Result<Value<'a>, Kind>> {
+/// The answer of `get`, or of the getter for the tag; None where there is no such getter.
+pub fn call<'a>(
+    doc: &'a RawDocument,
+    key: &str,
+    tag: Option<u8>,
+) -> Option<Result<Value<'a>, Kind>> {
     let answer = match tag {
         Some(tag) => typed(doc, key, tag)?.map(Some),
         None => doc.get(key),
@@ -79,7 +84,7 @@ fn typed<'a>(doc: &'a RawDocument, key: &str, tag: u8) -> Option<RawResult<Value
 }
 
 /// The first element under the key and its place, or where iteration is refused or ends.
-fn find<'a>(doc: &'a RawDocument, key: &[u8]) -> (usize, Option<Element<'a>>) {
+pub fn find<'a>(doc: &'a RawDocument, key: &[u8]) -> (usize, Option<Element<'a>>) {
     let mut steps = Steps::new(doc.as_bytes(), doc);
     while let Some(Ok(element)) = steps.next() {
         if element.raw.key().as_str().as_bytes() == key {

@@ -1,6 +1,6 @@
 //! Values: how they are read and written down, and which answers are not the Rust's own.
 
-use std::fmt::Display;
+use std::fmt::{self, Display};
 
 use bson::{spec::ElementType as Type, RawBson as Lossy, RawBsonRef as Value};
 
@@ -61,43 +61,98 @@ fn agrees(element: &Element, strict: &Result<Value, Kind>) -> bool {
     }
 }
 
-/// The value that was read from this element, in the list's words.
-pub fn render(element: &Element, value: Value) -> String {
-    let (outer, offset) = (element.outer, element.offset);
-    let one = |word: &str, part: &[u8]| {
-        let at = offset_in(outer, part);
-        format!("{word} {at} {}", part.len())
-    };
-    let two = |word: &str, first: &[u8], second: &[u8]| one(&one(word, first), second);
+/// What was read, in numbers: the content, and up to two parts by offset and size in the outermost document.
+/// What a type does not have is 0.
+#[derive(Clone, Copy, Debug, PartialEq)]
+pub struct Content {
+    pub kind: Type,
+    /// A double's bits; integers sign-extended; a timestamp's increment below its seconds; a binary's subtype.
+    pub bits: u64,
+    pub parts: [(usize, usize); 2],
+}
+
+impl Content {
+    /// The value that was read from this element.
+    pub fn of(element: &Element, value: Value) -> Self {
+        let [first, second] = parts(element, &value).map(|part| match part {
+            Some(part) => (offset_in(element.outer, part), part.len()),
+            None => (0, 0),
+        });
+        Self {
+            kind: value.element_type(),
+            bits: bits(&value),
+            parts: [first, second],
+        }
+    }
+}
+
+fn bits(value: &Value) -> u64 {
     match value {
-        Value::Boolean(b) => format!("boolean {}", u8::from(b)),
-        Value::Int32(n) => format!("int32 {n}"),
-        Value::Int64(n) => format!("int64 {n}"),
-        Value::DateTime(d) => format!("datetime {}", d.timestamp_millis()),
-        Value::Double(d) => format!("double {}", d.to_bits()),
-        Value::Timestamp(t) => format!("timestamp {} {}", t.increment, t.time),
-        Value::ObjectId(id) => one("objectid", source(outer, offset, &id.bytes())),
-        Value::Decimal128(d) => one("decimal128", source(outer, offset, &d.bytes())),
-        Value::String(text) => one("string", text.as_bytes()),
-        Value::JavaScriptCode(text) => one("code", text.as_bytes()),
-        Value::Symbol(text) => one("symbol", text.as_bytes()),
-        Value::Null => "null".into(),
-        Value::Undefined => "undefined".into(),
-        Value::MinKey => "minkey".into(),
-        Value::MaxKey => "maxkey".into(),
+        Value::Boolean(b) => u64::from(*b),
+        Value::Int32(n) => i64::from(*n) as u64,
+        Value::Int64(n) => *n as u64,
+        Value::DateTime(d) => d.timestamp_millis() as u64,
+        Value::Double(d) => d.to_bits(),
+        Value::Timestamp(t) => u64::from(t.time) << 32 | u64::from(t.increment),
+        Value::Binary(b) => u64::from(u8::from(b.subtype)),
+        _ => 0,
+    }
+}
+
+fn parts<'a>(element: &Element<'a>, value: &Value<'a>) -> [Option<&'a [u8]>; 2] {
+    let (outer, offset) = (element.outer, element.offset);
+    let (first, second): (&[u8], Option<&[u8]>) = match value {
+        Value::ObjectId(id) => (source(outer, offset, &id.bytes()), None),
+        Value::Decimal128(d) => (source(outer, offset, &d.bytes()), None),
+        Value::String(text) | Value::JavaScriptCode(text) | Value::Symbol(text) => {
+            (text.as_bytes(), None)
+        }
         Value::DbPointer(p) => {
             let id = source(outer, offset + element.raw.size() - 12, &p.id.bytes());
-            two("dbpointer", p.namespace.as_bytes(), id)
+            (p.namespace.as_bytes(), Some(id))
         }
-        Value::Binary(b) => one(&format!("binary {}", u8::from(b.subtype)), b.bytes),
+        Value::Binary(b) => (b.bytes, None),
         Value::RegularExpression(r) => {
             let [pattern, options] = [r.pattern, r.options].map(|text| text.as_str().as_bytes());
-            two("regex", pattern, options)
+            (pattern, Some(options))
         }
-        Value::Document(d) => one("document", d.as_bytes()),
-        Value::Array(a) => one("array", a.as_doc().as_bytes()),
-        Value::JavaScriptCodeWithScope(c) => {
-            two("codewithscope", c.code.as_bytes(), c.scope.as_bytes())
+        Value::Document(d) => (d.as_bytes(), None),
+        Value::Array(a) => (a.as_doc().as_bytes(), None),
+        Value::JavaScriptCodeWithScope(c) => (c.code.as_bytes(), Some(c.scope.as_bytes())),
+        _ => return [None, None],
+    };
+    [Some(first), second]
+}
+
+/// In the list's words.
+impl fmt::Display for Content {
+    fn fmt(&self, f: &mut fmt::Formatter) -> fmt::Result {
+        let signed = self.bits as i64;
+        let [(at, size), (at2, size2)] = self.parts;
+        match self.kind {
+            Type::Boolean => write!(f, "boolean {signed}"),
+            Type::Int32 => write!(f, "int32 {signed}"),
+            Type::Int64 => write!(f, "int64 {signed}"),
+            Type::DateTime => write!(f, "datetime {signed}"),
+            Type::Double => write!(f, "double {}", self.bits),
+            Type::Timestamp => write!(f, "timestamp {} {}", self.bits as u32, self.bits >> 32),
+            Type::Null => write!(f, "null"),
+            Type::Undefined => write!(f, "undefined"),
+            Type::MinKey => write!(f, "minkey"),
+            Type::MaxKey => write!(f, "maxkey"),
+            Type::ObjectId => write!(f, "objectid {at} {size}"),
+            Type::Decimal128 => write!(f, "decimal128 {at} {size}"),
+            Type::String => write!(f, "string {at} {size}"),
+            Type::JavaScriptCode => write!(f, "code {at} {size}"),
+            Type::Symbol => write!(f, "symbol {at} {size}"),
+            Type::EmbeddedDocument => write!(f, "document {at} {size}"),
+            Type::Array => write!(f, "array {at} {size}"),
+            Type::Binary => write!(f, "binary {} {at} {size}", self.bits),
+            Type::RegularExpression => write!(f, "regex {at} {size} {at2} {size2}"),
+            Type::DbPointer => write!(f, "dbpointer {at} {size} {at2} {size2}"),
+            Type::JavaScriptCodeWithScope => {
+                write!(f, "codewithscope {at} {size} {at2} {size2}")
+            }
         }
     }
 }

@@ -1,6 +1,8 @@
 // Stand-in for owned documents: the pairs in the order met, repeated keys included.
 use crate::Bson;
 
+pub mod writer;
+
 pub struct Document(Vec<(String, Bson)>);
 
 impl Document {

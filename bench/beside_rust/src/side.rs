@@ -1,0 +1,58 @@
+//! What each of the three does in a row, and what the rows hand to it.
+
+use bson::raw::CStr;
+use bson::{RawBsonRef as Value, RawDocument};
+
+/// One of the three. What a call returns is compared between them, so that each has read the same.
+pub trait Side {
+    /// Every step and every value of the top: the sum of tags, sizes of keys, and what the values hold.
+    fn iterate(&mut self, document: &[u8]) -> u64;
+
+    /// The whole check: the number of values, or 1 from libbson, which does not count.
+    fn check(&mut self, document: &[u8]) -> u64;
+
+    /// The first element of the key: its tag and what its value holds.
+    fn lookup(&mut self, document: &[u8], key: &str) -> u64;
+
+    /// The document of these pieces, into the side's own buffer: its size.
+    fn build(&mut self, pieces: &[Piece], given: Given) -> u64;
+
+    /// What the last build left in the buffer.
+    fn built(&self) -> &[u8];
+}
+
+/// How keys and texts come to the Rust, which tests them when they become its types; this library tests them always, libbson never.
+#[derive(Clone, Copy)]
+pub enum Given {
+    Bytes,
+    Tested,
+}
+
+/// An element to be written, with the elements inside it.
+pub struct Piece<'a> {
+    pub key: &'a CStr,
+    pub value: Value<'a>,
+    pub inside: Vec<Piece<'a>>,
+}
+
+/// The elements of a document; no code with scope, which the writer does not write.
+pub fn pieces(document: &RawDocument) -> Vec<Piece<'_>> {
+    let elements = document.iter().map(|step| step.expect("a whole document"));
+    let writable =
+        elements.filter(|(_, value)| !matches!(value, Value::JavaScriptCodeWithScope(_)));
+    writable
+        .map(|(key, value)| Piece {
+            key,
+            value,
+            inside: inside(value),
+        })
+        .collect()
+}
+
+fn inside(value: Value<'_>) -> Vec<Piece<'_>> {
+    match value {
+        Value::Document(inner) => pieces(inner),
+        Value::Array(inner) => pieces(inner.as_doc()),
+        _ => Vec::new(),
+    }
+}
