@@ -10,6 +10,7 @@ use lib.Seq.{drop-cons}
 use borrow.Author.Tests.{ltb-true, ltb-false, le-leb}
 use Rattle.bson.specs.Utf8.{Range, within, rows, Left, bad, left, begin, read, whole, utf8}
 use Rattle.laws.proofs.Common.{split, below, below-at, both-left, both-right}
+use Rattle.utf8_window.proofs.SameLaws.{beq-eq}
 use Rattle.utf8.specs.Chars.{inRange, leftAt, tellsOf, Told}
 
 -- no row fits: no character stands there
@@ -72,12 +73,6 @@ abbrev alike : List (List Range) → ℕ → ℕ → Bool
 alike [] a b = true
 alike ([] ∷ more) a b = alike more a b
 alike ((r ∷ rs) ∷ more) a b = Bool·beq (within r a) (within r b) && alike more a b
-
-beq-eq : (x y : Bool) → T (Bool·beq x y) → x ≡ y
-beq-eq true true t = refl
-beq-eq true false t = absurd t
-beq-eq false true t = absurd t
-beq-eq false false t = refl
 
 alike-begin : (xs : List (List Range)) (a b : ℕ) → T (alike xs a b) → begin xs a ≡ begin xs b
 alike-begin [] a b t = refl

@@ -4,9 +4,11 @@ use mathlib.Core.Path.{_≡_, refl, ap, sym, _∙_}
 use mathlib.Core.List.{List, [], _∷_, _++_}
 use mathlib.Core.Bool.{Bool, true, false}
 use native.Mathlib.Omega.{arith}
+use native.Mathlib.Nat.{le-of-suc-le-suc, not-suc-le-zero}
 use lib.Dec.{T, ltb, ltb→lt}
 use lib.ListN.{length, take, drop, drop-of-length-le, length-drop, take-append-drop}
 use lib.Seq.{drop-drop}
+use borrow.Author.Tests.{lt-ltb}
 use Rattle.bson.specs.Utf8.{utf8, Left, left, read, whole}
 use Rattle.laws.proofs.Common.{rest-part, both-left, both-right}
 use Rattle.laws.proofs.Utf8Laws.{next-ascii}
@@ -50,11 +52,21 @@ ascii-read (b ∷ v) w t =
     let h = ltb→lt b 128 (both-left (ltb b 128) (asciiOf v) t) in
     ap (λ (l : Left). read l (v ++ w)) (next-ascii b h) ∙ ascii-read v w (both-right (ltb b 128) (asciiOf v) t)
 
-pub at-block : {s : List ℕ} {i : ℕ} (n : ℕ) → At s i → i + n ≤ length s → asciiOf (take (i + n - i) (drop i s)) ≡ true → At s (i + n)
+ascii-take : (n m : ℕ) (v : List ℕ) → n ≤ m → T (asciiOf (take m v)) → T (asciiOf (take n v))
+ascii-take zero m v h t = tt
+ascii-take (suc n) zero v h t = absurd (not-suc-le-zero h)
+ascii-take (suc n) (suc m) [] h t = tt
+ascii-take (suc n) (suc m) (b ∷ v) h t =
+    let rest = ascii-take n m v (le-of-suc-le-suc h) (both-right (ltb b 128) (asciiOf (take m v)) t) in
+    rw (lt-ltb b 128 (ltb→lt b 128 (both-left (ltb b 128) (asciiOf (take m v)) t))) rest
+
+-- the bytes behind the block decide, and so do those from any offset in it on
+pub at-block : {s : List ℕ} {i : ℕ} (n m : ℕ) → n ≤ m → At s i → i + m ≤ length s
+    → asciiOf (take (i + m - i) (drop i s)) ≡ true → At s (i + n)
 unfolding utf8
-at-block {s} {i} n a h e =
-    let m : i + n - i ≡ n = omega arith in
+at-block {s} {i} n m l a h e =
+    let z : i + m - i ≡ m = omega arith in
     let v = drop i s in
-    let r = ascii-read (take n v) (drop n v) (rw (← m, e) tt) in
+    let r = ascii-read (take n v) (drop n v) (ascii-take n m v l (rw (← z, e) tt)) in
     let d : read (left []) v ≡ read (left []) (drop (i + n) s) = rw (take-append-drop n v, drop-drop n i s) at r in
-    record { inside = h; same = ap whole (sym d) ∙ a .same }
+    record { inside = omega arith; same = ap whole (sym d) ∙ a .same }

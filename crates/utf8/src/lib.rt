@@ -1,4 +1,4 @@
-// Whether bytes are UTF-8 (RFC 3629), by comparisons: blocks of ASCII first, then one character after the other.
+// Whether bytes are UTF-8 (RFC 3629), by comparisons: blocks of ASCII first, then a long rest by window, a short one character by character.
 ghost use mathlib.Core.Path.{_≡_};
 ghost use mathlib.Core.List.{[], _∷_};
 ghost use Prim.Native.Nat.{_<_};
@@ -111,17 +111,45 @@ fn ascii(v: &[u8]) -> bool
     all < 128
 }
 
-// Whether s is UTF-8: blocks of ASCII are passed over, and the rest is read character by character.
-pub fn is_utf8(s: &[u8]) -> bool
+// Whether s is UTF-8: blocks of eight ASCII bytes are passed over, and the rest is read character by character. For short texts.
+fn by_eights(s: &[u8]) -> bool
     ensures { λ r. ⌜ r ≡ utf8 (now (s .entry)) ⌝ }
 {
     let mut i = 0;
-    while 32 <= s.len() - i {
-        let e = i + 32;
+    while 8 <= s.len() - i {
+        let e = i + 8;
         if !ascii(&s[i..e]) {
             return by_chars(&s[i..]);
         }
         i = e;
     }
     by_chars(&s[i..])
+}
+
+// Whether v is UTF-8, where not all of it is ASCII: a long one by window.
+fn mixed(v: &[u8]) -> bool
+    ensures { λ r. ⌜ r ≡ utf8 (now (v .entry)) ⌝ }
+{
+    if v.len() < 64 {
+        return by_chars(v);
+    }
+    utf8_window::by_window(v)
+}
+
+// Whether s is UTF-8: blocks of ASCII are passed over. What is not ASCII is read from k on, three bytes before its block: were the block's
+// own first bytes read anew, the compiler would load these one by one, and no longer the block as a whole.
+pub fn is_utf8(s: &[u8]) -> bool
+    ensures { λ r. ⌜ r ≡ utf8 (now (s .entry)) ⌝ }
+{
+    let mut k = 0;
+    let mut i = 0;
+    while 32 <= s.len() - i {
+        let e = i + 32;
+        if !ascii(&s[i..e]) {
+            return mixed(&s[k..]);
+        }
+        k = e - 3;
+        i = e;
+    }
+    by_eights(&s[i..])
 }

@@ -1,6 +1,6 @@
--- `utf8::is_utf8` meets its contract: the blocks before i are ASCII, so the bytes from i on decide. Assumes nothing.
-use Prim.Native.Nat.{_-_}
-use mathlib.Core.Path.{refl, sym, _∙_}
+-- `utf8::is_utf8` meets its contract: the blocks before i are ASCII, so the bytes from i on decide, and those from k on. Assumes nothing.
+use Prim.Native.Nat.{_+_, _-_}
+use mathlib.Core.Path.{_≡_, refl, sym, _∙_}
 use native.Mathlib.Omega.{arith}
 use borrow.Author.Needs.{needs}
 use borrow.Author.Tests.{not-false}
@@ -10,13 +10,13 @@ use Rattle.utf8.proofs.is_utf8.Statement.{statement}
 use Rattle.utf8.proofs.is_utf8.Tie as tie
 
 abbrev Inv-loop : tie.InvT-loop
-Inv-loop s i₀ i = At s i
+Inv-loop s k₀ i₀ k i = At s k × At s i
 
 abbrev μ-loop : tie.MeasureT-loop
-μ-loop s i₀ i = length s - i
+μ-loop s k₀ i₀ k i = length s - i
 
 loop-holds : tie.Need-loop-holds Inv-loop μ-loop
-loop-holds c = record { inside = omega arith; same = refl }
+loop-holds c = (record { inside = omega arith; same = refl }, record { inside = omega arith; same = refl })
 
 sub-loop : tie.Need-sub-loop Inv-loop μ-loop
 sub-loop c = search needs
@@ -36,43 +36,48 @@ part-ascii-end c = search needs
 ascii-requires : tie.Need-ascii-requires Inv-loop μ-loop
 ascii-requires c κs = search needs
 
-sub-by-chars : tie.Need-sub-by-chars Inv-loop μ-loop
-sub-by-chars c = search needs
+sub-mixed : tie.Need-sub-mixed Inv-loop μ-loop
+sub-mixed c = search needs
 
-part-by-chars-start : tie.Need-part-by-chars-start Inv-loop μ-loop
-part-by-chars-start c = search needs
+part-mixed-start : tie.Need-part-mixed-start Inv-loop μ-loop
+part-mixed-start c = search needs
 
-part-by-chars-end : tie.Need-part-by-chars-end Inv-loop μ-loop
-part-by-chars-end c = search needs
+part-mixed-end : tie.Need-part-mixed-end Inv-loop μ-loop
+part-mixed-end c = search needs
 
-by-chars-requires : tie.Need-by-chars-requires Inv-loop μ-loop
-by-chars-requires c κs = search needs
+mixed-requires : tie.Need-mixed-requires Inv-loop μ-loop
+mixed-requires c κs = search needs
 
 returns : tie.Need-returns Inv-loop μ-loop
-returns c = at-rest (c .before .before .before .before .before .before .loop .inv) (c .by-chars .ensures)
+returns c = at-rest (c .before .before .before .before .before .before .loop .inv .0) (c .mixed .ensures)
+
+sub-k : tie.Need-sub-k Inv-loop μ-loop
+sub-k c = search needs
 
 loop-less : tie.Need-loop-less Inv-loop μ-loop
 loop-less c = search needs
 
 loop-again : tie.Need-loop-again Inv-loop μ-loop
 loop-again c =
+    let l = c .before .before .before .before .loop in
     let e = sym (c .before .ascii .ensures) ∙ not-false _ (c .if1 .left) in
-    at-block 32 (c .before .before .before .before .loop .inv) (omega arith) e
+    let k : l .i + 32 - 3 ≡ l .i + 29 = omega arith in
+    (rw k (at-block 29 32 (omega arith) (l .inv .1) (omega arith) e), at-block 32 32 (omega arith) (l .inv .1) (omega arith) e)
 
-sub-by-chars-2 : tie.Need-sub-by-chars-2 Inv-loop μ-loop
-sub-by-chars-2 c = search needs
+sub-by-eights : tie.Need-sub-by-eights Inv-loop μ-loop
+sub-by-eights c = search needs
 
-part-by-chars-start-2 : tie.Need-part-by-chars-start-2 Inv-loop μ-loop
-part-by-chars-start-2 c = search needs
+part-by-eights-start : tie.Need-part-by-eights-start Inv-loop μ-loop
+part-by-eights-start c = search needs
 
-part-by-chars-end-2 : tie.Need-part-by-chars-end-2 Inv-loop μ-loop
-part-by-chars-end-2 c = search needs
+part-by-eights-end : tie.Need-part-by-eights-end Inv-loop μ-loop
+part-by-eights-end c = search needs
 
-by-chars-requires-2 : tie.Need-by-chars-requires-2 Inv-loop μ-loop
-by-chars-requires-2 c κs = search needs
+by-eights-requires : tie.Need-by-eights-requires Inv-loop μ-loop
+by-eights-requires c κs = search needs
 
 returns-2 : tie.Need-returns-2 Inv-loop μ-loop
-returns-2 c = at-rest (c .before .before .before .loop .inv) (c .by-chars2 .ensures)
+returns-2 c = at-rest (c .before .before .before .loop .inv .1) (c .by-eights .ensures)
 
 pub is-utf8-spec : {M : Type 1} → statement M
 is-utf8-spec =
@@ -87,15 +92,16 @@ is-utf8-spec =
     part-ascii-start
     part-ascii-end
     ascii-requires
-    sub-by-chars
-    part-by-chars-start
-    part-by-chars-end
-    by-chars-requires
+    sub-mixed
+    part-mixed-start
+    part-mixed-end
+    mixed-requires
     returns
+    sub-k
     loop-less
     loop-again
-    sub-by-chars-2
-    part-by-chars-start-2
-    part-by-chars-end-2
-    by-chars-requires-2
+    sub-by-eights
+    part-by-eights-start
+    part-by-eights-end
+    by-eights-requires
     returns-2)

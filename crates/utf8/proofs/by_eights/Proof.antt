@@ -1,0 +1,101 @@
+-- `utf8::by_eights` meets its contract: the blocks before i are ASCII, so the bytes from i on decide. Assumes nothing.
+use Prim.Native.Nat.{_-_}
+use mathlib.Core.Path.{refl, sym, _∙_}
+use native.Mathlib.Omega.{arith}
+use borrow.Author.Needs.{needs}
+use borrow.Author.Tests.{not-false}
+use lib.ListN.{length}
+use Rattle.utf8.proofs.TextLaws.{At, at-rest, at-block}
+use Rattle.utf8.proofs.by_eights.Statement.{statement}
+use Rattle.utf8.proofs.by_eights.Tie as tie
+
+abbrev Inv-loop : tie.InvT-loop
+Inv-loop s i₀ i = At s i
+
+abbrev μ-loop : tie.MeasureT-loop
+μ-loop s i₀ i = length s - i
+
+loop-holds : tie.Need-loop-holds Inv-loop μ-loop
+loop-holds c = record { inside = omega arith; same = refl }
+
+sub-loop : tie.Need-sub-loop Inv-loop μ-loop
+sub-loop c = search needs
+
+add-e : tie.Need-add-e Inv-loop μ-loop
+add-e c = search needs
+
+sub-ascii : tie.Need-sub-ascii Inv-loop μ-loop
+sub-ascii c = search needs
+
+part-ascii-start : tie.Need-part-ascii-start Inv-loop μ-loop
+part-ascii-start c = search needs
+
+part-ascii-end : tie.Need-part-ascii-end Inv-loop μ-loop
+part-ascii-end c = search needs
+
+ascii-requires : tie.Need-ascii-requires Inv-loop μ-loop
+ascii-requires c κs = search needs
+
+sub-by-chars : tie.Need-sub-by-chars Inv-loop μ-loop
+sub-by-chars c = search needs
+
+part-by-chars-start : tie.Need-part-by-chars-start Inv-loop μ-loop
+part-by-chars-start c = search needs
+
+part-by-chars-end : tie.Need-part-by-chars-end Inv-loop μ-loop
+part-by-chars-end c = search needs
+
+by-chars-requires : tie.Need-by-chars-requires Inv-loop μ-loop
+by-chars-requires c κs = search needs
+
+returns : tie.Need-returns Inv-loop μ-loop
+returns c = at-rest (c .before .before .before .before .before .before .loop .inv) (c .by-chars .ensures)
+
+loop-less : tie.Need-loop-less Inv-loop μ-loop
+loop-less c = search needs
+
+loop-again : tie.Need-loop-again Inv-loop μ-loop
+loop-again c =
+    let e = sym (c .before .ascii .ensures) ∙ not-false _ (c .if1 .left) in
+    at-block 8 8 (omega arith) (c .before .before .before .before .loop .inv) (omega arith) e
+
+sub-by-chars-2 : tie.Need-sub-by-chars-2 Inv-loop μ-loop
+sub-by-chars-2 c = search needs
+
+part-by-chars-start-2 : tie.Need-part-by-chars-start-2 Inv-loop μ-loop
+part-by-chars-start-2 c = search needs
+
+part-by-chars-end-2 : tie.Need-part-by-chars-end-2 Inv-loop μ-loop
+part-by-chars-end-2 c = search needs
+
+by-chars-requires-2 : tie.Need-by-chars-requires-2 Inv-loop μ-loop
+by-chars-requires-2 c κs = search needs
+
+returns-2 : tie.Need-returns-2 Inv-loop μ-loop
+returns-2 c = at-rest (c .before .before .before .loop .inv) (c .by-chars2 .ensures)
+
+pub by-eights-spec : {M : Type 1} → statement M
+by-eights-spec =
+    tie.close
+    (tie.spec
+    Inv-loop
+    μ-loop
+    loop-holds
+    sub-loop
+    add-e
+    sub-ascii
+    part-ascii-start
+    part-ascii-end
+    ascii-requires
+    sub-by-chars
+    part-by-chars-start
+    part-by-chars-end
+    by-chars-requires
+    returns
+    loop-less
+    loop-again
+    sub-by-chars-2
+    part-by-chars-start-2
+    part-by-chars-end-2
+    by-chars-requires-2
+    returns-2)
