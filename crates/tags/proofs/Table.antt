@@ -1,5 +1,5 @@
 -- The code's table sizes each tag as the definition does: one test over all 256 tags. Assumes nothing.
-use Prim.Native.Nat.{ℕ, _<_, _≤_}
+use Prim.Native.Nat.{ℕ, _<_, _≤_, _/_}
 use mathlib.Core.Path.{_≡_, ap}
 use mathlib.Core.List.{List, [], _∷_}
 use mathlib.Core.Bool.{Bool, true, false, cond, _&&_}
@@ -8,15 +8,19 @@ use lib.ListN.{getD}
 use lib.Dec.{T, eqb, leb, eqb→eq}
 use Rattle.bson.specs.Answer.{Answer, gives, refuses}
 use Rattle.bson.specs.Tags.{Sized, fixed, asString, asPointer, asDocument, asBinary, asRegex, asScope, tags, rowOf, sizedOf}
+use native.Mathlib.Omega.{arith}
 use Rattle.laws.proofs.Common.{both-left, both-right, below-at}
 use Rattle.tags.specs.Rows.{rowNumber}
 
--- the constants of the code
-unfoldable pub classes : List ℕ
-classes = 0 ∷ 1 ∷ 3 ∷ 3 ∷ 4 ∷ 0 ∷ 0 ∷ 0 ∷ 0 ∷ 0 ∷ 5 ∷ 2 ∷ 1 ∷ 1 ∷ 6 ∷ 0 ∷ 0 ∷ 0 ∷ 0 ∷ 0 ∷ 0 ∷ []
+-- the constant of the code, and the class of a row; in class 0 the row itself is the size
+unfoldable pub rows : List ℕ
+rows = 8 ∷ 32 ∷ 96 ∷ 96 ∷ 128 ∷ 0 ∷ 12 ∷ 1 ∷ 8 ∷ 0 ∷ 160 ∷ 64 ∷ 32 ∷ 32 ∷ 192 ∷ 4 ∷ 8 ∷ 8 ∷ 16 ∷ 0 ∷ 0 ∷ []
 
-unfoldable pub sizes : List ℕ
-sizes = 8 ∷ 0 ∷ 0 ∷ 0 ∷ 0 ∷ 0 ∷ 12 ∷ 1 ∷ 8 ∷ 0 ∷ 0 ∷ 0 ∷ 0 ∷ 0 ∷ 0 ∷ 4 ∷ 8 ∷ 8 ∷ 16 ∷ 0 ∷ 0 ∷ []
+abbrev size : ℕ → ℕ
+size i = getD rows i 0
+
+abbrev class : ℕ → ℕ
+class i = size i / 32
 
 -- what the code makes of a class k and a size z, and the test that it is this
 abbrev pub byClass : ℕ → ℕ → Sized
@@ -64,16 +68,19 @@ is-row (refuses n p) true k z t = rw (eqb→eq n 7 (both-left (eqb n 7) (eqb p 0
 is-row (refuses n p) false k z t = absurd t
 
 abbrev right : ℕ → Bool
-right tag = let i = rowNumber tag in isRow (sizedOf tag) (leb 21 i) (getD classes i 0) (getD sizes i 0)
+right tag = let i = rowNumber tag in isRow (sizedOf tag) (leb 21 i) (class i) (size i)
 
 -- the rule of the table, at the row i of a tag
 module _ (tag i : ℕ) (small : tag < 256) (row : i ≡ rowNumber tag) where
-  of-tag : byRow (leb 21 i) (getD classes i 0) (getD sizes i 0) ≡ sizedOf tag
-  unfolding classes sizes tags rowOf rowNumber
-  of-tag = is-row (sizedOf tag) (leb 21 i) (getD classes i 0) (getD sizes i 0) (rw row (below-at right 256 tt tag small))
+  of-tag : byRow (leb 21 i) (class i) (size i) ≡ sizedOf tag
+  unfolding rows tags rowOf rowNumber
+  of-tag = is-row (sizedOf tag) (leb 21 i) (class i) (size i) (rw row (below-at right 256 tt tag small))
 
   pub no-row : 21 ≤ i → refuses 7 0 ≡ sizedOf tag
   no-row h = rw le-leb at of-tag
 
-  pub of-row : i < 21 → (k : ℕ) → getD classes i 0 ≡ k → gives (byClass k (getD sizes i 0)) ≡ sizedOf tag
+  pub of-row : i < 21 → (k : ℕ) → class i ≡ k → gives (byClass k (size i)) ≡ sizedOf tag
   of-row h k e = rw (lt-leb, e) at of-tag
+
+  pub of-fixed : i < 21 → size i < 32 → gives (fixed (size i)) ≡ sizedOf tag
+  of-fixed h k = of-row h 0 (omega arith)

@@ -15,54 +15,30 @@ pub enum Kind {
     Unknown,
 }
 
-// The rows are the tags 01 to 13, then FF and 7F. The class of each: 0 fixed, 1 string, 2 pointer, 3 document, 4 binary, 5 regex, 6 scope.
-const CLASSES: [u8; 21] = [
-    0, // 01 double
-    1, // 02 string
-    3, // 03 document
-    3, // 04 array
-    4, // 05 binary
+// The rows are the tags 01 to 13, then FF and 7F: class * 32 + size, in one table, as each use of a constant array stores it anew.
+// The classes are 0 fixed, 1 string, 2 pointer, 3 document, 4 binary, 5 regex, 6 scope; a size is given of the fixed alone.
+const ROWS: [u8; 21] = [
+    8, // 01 double
+    1 * 32, // 02 string
+    3 * 32, // 03 document
+    3 * 32, // 04 array
+    4 * 32, // 05 binary
     0, // 06 undefined
-    0, // 07 object id
-    0, // 08 boolean
-    0, // 09 datetime
+    12, // 07 object id
+    1, // 08 boolean
+    8, // 09 datetime
     0, // 0A null
-    5, // 0B regular expression
-    2, // 0C DBPointer
-    1, // 0D code
-    1, // 0E symbol
-    6, // 0F code with scope
-    0, // 10 int32
-    0, // 11 timestamp
-    0, // 12 int64
-    0, // 13 decimal128
+    5 * 32, // 0B regular expression
+    2 * 32, // 0C DBPointer
+    1 * 32, // 0D code
+    1 * 32, // 0E symbol
+    6 * 32, // 0F code with scope
+    4, // 10 int32
+    8, // 11 timestamp
+    8, // 12 int64
+    16, // 13 decimal128
     0, // FF min key
     0, // 7F max key
-];
-
-// The size of a value of class 0, by the same rows.
-const SIZES: [u8; 21] = [
-    8, // 01
-    0, // 02
-    0, // 03
-    0, // 04
-    0, // 05
-    0, // 06
-    12, // 07
-    1, // 08
-    8, // 09
-    0, // 0A
-    0, // 0B
-    0, // 0C
-    0, // 0D
-    0, // 0E
-    0, // 0F
-    4, // 10
-    8, // 11
-    8, // 12
-    16, // 13
-    0, // FF
-    0, // 7F
 ];
 
 fn wide(x: u8) -> usize
@@ -98,8 +74,11 @@ pub fn kind_of(tag: u8) -> Kind
     if 21 <= i {
         return Kind::Unknown;
     }
-    match CLASSES[i] {
-        0 => Kind::Fixed(wide(SIZES[i])),
+    let row = ROWS[i];
+    if row < 32 {
+        return Kind::Fixed(wide(row));
+    }
+    match row / 32 {
         1 => Kind::String,
         2 => Kind::Pointer,
         3 => Kind::Document,

@@ -34,7 +34,8 @@ pub enum Value {
     DbPointer { namespace: Part, id: Part },
     JavaScriptCode(Part),
     Symbol(Part),
-    JavaScriptCodeWithScope { code: Part, scope: Part },
+    // The scope stands first, so that what a value opens lies at one offset in the three that open something: none is copied out.
+    JavaScriptCodeWithScope { scope: Part, code: Part },
     Int32(i32),
     Timestamp { increment: u32, seconds: u32 },
     Int64(i64),

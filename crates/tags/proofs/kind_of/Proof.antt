@@ -1,59 +1,61 @@
 -- `tags::kind_of` meets its contract: each way out by the rule of the table. Assumes nothing.
-use mathlib.Core.Path.{refl}
+use mathlib.Core.Path.{_≡_, refl}
+use native.Mathlib.Omega.{arith}
 use borrow.Author.Tests.{ne-eqb}
-use Rattle.tags.proofs.Table.{classes, sizes, no-row, of-row}
+use Prim.Native.Nat.{ℕ, _/_, _≤_}
+use Rattle.tags.proofs.Table.{rows, no-row, of-row, of-fixed}
 use borrow.Author.Needs.{needs}
 use Rattle.tags.proofs.kind_of.Statement.{statement}
 use Rattle.tags.proofs.kind_of.Tie as tie
 
+not-fixed : (row : ℕ) → 32 ≤ row → row / 32 ≡ 0 → ⊥
+not-fixed row h e = omega arith
+
 row-requires : tie.Need-row-requires
-row-requires c κs = search needs
+row-requires c κs = tt
 
 returns : tie.Need-returns
 returns c = no-row _ _ (c .before .before .fits .tag .fits) (c .before .row .ensures) (c .if1 .taken)
 
-array-read-match : tie.Need-array-read-match
-array-read-match c = search needs
-
-array-read-wide : tie.Need-array-read-wide
-array-read-wide c = search needs
+array-read-row : tie.Need-array-read-row
+array-read-row c = search needs
 
 wide-requires : tie.Need-wide-requires
-wide-requires c κs = search needs
+wide-requires c κs = tt
 
 returns-2 : tie.Need-returns-2
-unfolding classes sizes
+unfolding rows
 returns-2 c =
     let d = c .before .before in
-    rw (c .wide .ensures) (of-row _ _ (d .before .before .fits .tag .fits) (d .before .row .ensures) (d .if1 .left) 0 (c .before .match .keys1))
+    rw (c .wide .ensures) (of-fixed _ _ (d .before .before .fits .tag .fits) (d .before .row .ensures) (d .if1 .left) (c .before .if2 .taken))
 
 returns-3 : tie.Need-returns-3
-unfolding classes
-returns-3 c = let d = c .before in of-row _ _ (d .before .before .fits .tag .fits) (d .before .row .ensures) (d .if1 .left) 1 (c .match .keys2)
+unfolding rows
+returns-3 c = let d = c .before .before in of-row _ _ (d .before .before .fits .tag .fits) (d .before .row .ensures) (d .if1 .left) 1 (c .match .keys1)
 
 returns-4 : tie.Need-returns-4
-unfolding classes
-returns-4 c = let d = c .before in of-row _ _ (d .before .before .fits .tag .fits) (d .before .row .ensures) (d .if1 .left) 2 (c .match .keys3)
+unfolding rows
+returns-4 c = let d = c .before .before in of-row _ _ (d .before .before .fits .tag .fits) (d .before .row .ensures) (d .if1 .left) 2 (c .match .keys2)
 
 returns-5 : tie.Need-returns-5
-unfolding classes
-returns-5 c = let d = c .before in of-row _ _ (d .before .before .fits .tag .fits) (d .before .row .ensures) (d .if1 .left) 3 (c .match .keys4)
+unfolding rows
+returns-5 c = let d = c .before .before in of-row _ _ (d .before .before .fits .tag .fits) (d .before .row .ensures) (d .if1 .left) 3 (c .match .keys3)
 
 returns-6 : tie.Need-returns-6
-unfolding classes
-returns-6 c = let d = c .before in of-row _ _ (d .before .before .fits .tag .fits) (d .before .row .ensures) (d .if1 .left) 4 (c .match .keys5)
+unfolding rows
+returns-6 c = let d = c .before .before in of-row _ _ (d .before .before .fits .tag .fits) (d .before .row .ensures) (d .if1 .left) 4 (c .match .keys4)
 
 returns-7 : tie.Need-returns-7
-unfolding classes
-returns-7 c = let d = c .before in of-row _ _ (d .before .before .fits .tag .fits) (d .before .row .ensures) (d .if1 .left) 5 (c .match .keys6)
+unfolding rows
+returns-7 c = let d = c .before .before in of-row _ _ (d .before .before .fits .tag .fits) (d .before .row .ensures) (d .if1 .left) 5 (c .match .keys5)
 
 returns-8 : tie.Need-returns-8
-unfolding classes
+unfolding rows
 returns-8 c =
-    let d = c .before in
+    let d = c .before .before in
     rw (
       ← of-row _ _ (d .before .before .fits .tag .fits) (d .before .row .ensures) (d .if1 .left) _ refl,
-      ne-eqb _ _ (c .match .rest .0 .0 .0 .0 .0 .1),
+      ne-eqb _ _ (not-fixed _ (c .before .if2 .left)),
       ne-eqb _ _ (c .match .rest .0 .0 .0 .0 .1),
       ne-eqb _ _ (c .match .rest .0 .0 .0 .1),
       ne-eqb _ _ (c .match .rest .0 .0 .1),
@@ -67,8 +69,7 @@ kind-of-spec =
     (tie.spec
     row-requires
     returns
-    array-read-match
-    array-read-wide
+    array-read-row
     wide-requires
     returns-2
     returns-3
