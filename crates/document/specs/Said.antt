@@ -1,4 +1,6 @@
 -- What each case of an answer says on paper (document 01, "Values").
+use Prim.Native.Nat.{ℕ}
+use mathlib.Core.List.{List}
 use mathlib.Core.Bool.{Bool}
 use Rattle.bson.specs.Answer.{Answer, gives, refuses}
 use Rattle.bson.specs.Lookup as paper
@@ -6,6 +8,8 @@ use Rattle.iter.specs.Said.{saidElement}
 use Rattle.value.specs.Said.{saidValue}
 use Rattle.document.specs.declared.Empty.{Empty}
 use Rattle.document.specs.declared.Empty.the-variants as empty
+use Rattle.document.specs.declared.Hit.{Hit}
+use Rattle.document.specs.declared.Hit.the-variants as hit
 use Rattle.document.specs.declared.Found.{Found}
 use Rattle.document.specs.declared.Found.the-variants.{Is, Refused}
 
@@ -16,3 +20,8 @@ saidEmpty (empty.Refused number) = refuses number 0
 abbrev pub said : Found → Answer paper.Found
 said (Is e v) = gives (record { element = saidElement e; value = saidValue v })
 said (Refused number place) = refuses number place
+
+-- what reading the element whose key matched answers
+abbrev pub reads : List ℕ → Hit → Answer paper.Found
+reads s (hit.Is e) = paper.found s (saidElement e)
+reads s (hit.Refused number place) = refuses number place

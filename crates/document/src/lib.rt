@@ -1,15 +1,17 @@
 // A document: admission, whether it is empty, lookup (document 01, module 5 and "Values"; src/raw/document.rs of the Rust).
 ghost use mathlib.Core.Path.{_≡_};
+ghost use Rattle.bson.specs.Answer.{then};
 ghost use Rattle.bson.specs.Step.{admitted};
 ghost use Rattle.bson.specs.Lookup.{found as foundIn, get as lookup, getBytes, getWith, getPart, isEmpty};
+ghost use Rattle.bson.specs.Value.{ofTag};
 ghost use Rattle.cstr.specs.Said as length;
 ghost use Rattle.iter.specs.Said.{saidElement};
 ghost use Rattle.reading.specs.Said.{saidWhich};
-ghost use Rattle.document.specs.Said.{saidEmpty, said};
+ghost use Rattle.document.specs.Said.{saidEmpty, said, reads};
 use cstr::Length;
-use iter::Cursor;
 use iter::Element;
-use iter::Step;
+use iter::Sizes;
+use part::Part;
 use reading::Reading;
 use reading::Which;
 use value::Value;
@@ -42,6 +44,12 @@ pub fn is_empty(s: &[u8]) -> Empty
     }
 }
 
+// The element whose key matched, not read yet, or the number and the place of the refusal.
+enum Hit {
+    Is(Element),
+    Refused { number: u8, place: usize },
+}
+
 // The element whose key matched, with its value or the value's refusal.
 fn read_element(s: &[u8], element: Element) -> Found
     ensures { λ r. ⌜ said r ≡ foundIn (now (s .entry)) (saidElement element) ⌝ }
@@ -52,39 +60,74 @@ fn read_element(s: &[u8], element: Element) -> Found
     }
 }
 
+// The same, of a value that must have this tag: 17 behind its own refusals.
+fn read_element_with(s: &[u8], element: Element, tag: u8) -> Found
+    ensures { λ r. ⌜ said r ≡ then (foundIn (now (s .entry)) (saidElement element)) (λ f. ofTag (f .element) tag f) ⌝ }
+{
+    match read_element(s, element) {
+        Found::Refused { number, place } => Found::Refused { number, place },
+        Found::Is { element, value } => {
+            if element.tag == tag {
+                return Found::Is { element, value };
+            }
+            let place = element.place;
+            Found::Refused { number: 17, place }
+        }
+    }
+}
+
+// The first element whose key has these bytes, not read yet: the refusals of the steps before it, or 16 at the terminator.
+fn find(s: &[u8], key: &[u8]) -> Hit
+    ensures { λ r. ⌜ reads (now (s .entry)) r ≡ lookup (now (s .entry)) (now (key .entry)) ⌝ }
+{
+    // a part made here is handed on as two words, and not copied as one from the caller's two
+    let whole = &s[0..];
+    let mut place: usize = 4;
+    loop {
+        match iter::sizes_at(whole, place) {
+            Sizes::End => {
+                return Hit::Refused { number: 16, place };
+            }
+            Sizes::Refused { number, place } => {
+                return Hit::Refused { number, place };
+            }
+            Sizes::Yield {
+                tag,
+                key: length,
+                value: size,
+            } => {
+                let start = place + 1;
+                let behind = start + length + 1;
+                let name = Part {
+                    offset: start,
+                    size: length,
+                };
+                if cstr::equal(key, part::bytes_of(whole, name)) {
+                    let value = Part {
+                        offset: behind,
+                        size,
+                    };
+                    return Hit::Is(Element {
+                        place,
+                        tag,
+                        key: name,
+                        value,
+                    });
+                }
+                place = behind + size;
+            }
+        }
+    }
+}
+
 // The first element whose key has these bytes, and its value: the refusals of the steps before it, then the value's,
 // or 16 at the terminator. Damage behind the element is not seen.
 pub fn get_element(s: &[u8], key: &[u8]) -> Found
     ensures { λ r. ⌜ said r ≡ lookup (now (s .entry)) (now (key .entry)) ⌝ }
 {
-    let mut offset: usize = 4;
-    loop {
-        let cursor = Cursor {
-            offset,
-            ended: false,
-        };
-        match iter::next(s, cursor) {
-            Step::End { next: _ } => {
-                return Found::Refused {
-                    number: 16,
-                    place: offset,
-                };
-            }
-            Step::Refused {
-                number,
-                place,
-                next: _,
-            } => {
-                return Found::Refused { number, place };
-            }
-            Step::Yield { element, next } => {
-                let name = element.key;
-                if cstr::equal(key, part::bytes_of(s, name)) {
-                    return read_element(s, element);
-                }
-                offset = next.offset;
-            }
-        }
+    match find(s, key) {
+        Hit::Refused { number, place } => Found::Refused { number, place },
+        Hit::Is(element) => read_element(s, element),
     }
 }
 
@@ -108,15 +151,9 @@ pub fn get<'a, 'b>(s: &'a [u8], key: &'b [u8]) -> &'a [u8]
 pub fn get_with(s: &[u8], key: &[u8], tag: u8) -> Found
     ensures { λ r. ⌜ said r ≡ getWith (now (s .entry)) (now (key .entry)) tag ⌝ }
 {
-    match get_element(s, key) {
-        Found::Refused { number, place } => Found::Refused { number, place },
-        Found::Is { element, value } => {
-            if element.tag == tag {
-                return Found::Is { element, value };
-            }
-            let place = element.place;
-            Found::Refused { number: 17, place }
-        }
+    match find(s, key) {
+        Hit::Refused { number, place } => Found::Refused { number, place },
+        Hit::Is(element) => read_element_with(s, element, tag),
     }
 }
 

@@ -1,4 +1,5 @@
 -- Determined: the promise of each call allows one answer (document 01, "What every answer is bound to"). Assumes nothing.
+use Prim.Native.Nat.{ℕ}
 use mathlib.Core.Path.{_≡_, refl, sym, _∙_}
 use contract.Lifetimes.{Lfts}
 use borrow.Fn.Kinds.{Dens}
@@ -7,11 +8,15 @@ use Rattle.bson.specs.Answer.{Answer, gives, refuses}
 use Rattle.bson.specs.Step as paper
 use Rattle.laws.proofs.Determined.{Determined, DeterminedPart, injective-by}
 use Rattle.part.proofs.Determined.{unsaidPart}
-use Rattle.iter.specs.Said.{said, behind}
+use Rattle.iter.specs.Said.{saidSizes, said, behind}
 use Rattle.iter.specs.declared.Cursor.{Cursor}
 use Rattle.iter.specs.declared.Element.{Element}
+use Rattle.iter.specs.declared.Sizes.{Sizes}
+use Rattle.iter.specs.declared.Sizes.the-variants as sizes
 use Rattle.iter.specs.declared.Step.{Step}
 use Rattle.iter.specs.declared.Step.the-variants.{Yield, End, Refused}
+use Rattle.iter.proofs.sizes_at.Reads as sizes-at-reads
+use Rattle.iter.proofs.sizes_at.Kinds as sizes-at-kinds
 use Rattle.iter.proofs.next.Reads as next-reads
 use Rattle.iter.proofs.next.Kinds as next-kinds
 use Rattle.iter.proofs.key_at.Reads as key-at-reads
@@ -22,6 +27,19 @@ unsaidElement e = record { place = e .place; tag = e .tag; key = unsaidPart (e .
 
 abbrev unsaidCursor : paper.Cursor → Cursor
 unsaidCursor c = record { offset = c .offset; ended = c .ended }
+
+abbrev unsaidSizes : Answer paper.Step → Sizes
+unsaidSizes (gives (paper.yield e)) = sizes.Yield (e .tag) (e .key .size) (e .value .size)
+unsaidSizes (gives paper.end) = sizes.End
+unsaidSizes (refuses number place) = sizes.Refused number place
+
+sizes-again : (place : ℕ) (r : Sizes) → unsaidSizes (saidSizes place r) ≡ r
+sizes-again place (sizes.Yield tag key value) = refl
+sizes-again place sizes.End = refl
+sizes-again place (sizes.Refused number p) = refl
+
+pub sizes-at-determined : (κs : Lfts 1) (a : Dens κs sizes-at-kinds.ps) → Determined (sizes-at-reads.Post κs a)
+sizes-at-determined κs a r₁ r₂ s₁ s₂ p q = injective-by (saidSizes _) unsaidSizes (sizes-again _) r₁ r₂ (p ∙ sym q)
 
 -- an answer and the cursor behind it
 abbrev Stepped : Type 0

@@ -1,12 +1,14 @@
 -- What cursors, elements and the cases of an answer say on paper, and the cursor behind a step (document 01, "Admission and one step").
+use Prim.Native.Nat.{ℕ, _+_}
 use mathlib.Core.Path.{_≡_}
 use Rattle.bson.specs.Answer.{Answer, gives, refuses}
+use Rattle.bson.specs.Bytes as bytes
 use Rattle.bson.specs.Step as paper
 use Rattle.part.specs.Said as part
 use Rattle.iter.specs.declared.Cursor.{Cursor}
 use Rattle.iter.specs.declared.Element.{Element}
-use Rattle.iter.specs.declared.Framed.{Framed}
-use Rattle.iter.specs.declared.Framed.the-variants as framed
+use Rattle.iter.specs.declared.Sizes.{Sizes}
+use Rattle.iter.specs.declared.Sizes.the-variants as sizes
 use Rattle.iter.specs.declared.Step.{Step}
 use Rattle.iter.specs.declared.Step.the-variants.{Yield, End, Refused}
 
@@ -16,9 +18,14 @@ saidCursor c = paper.cursor (c .offset) (c .ended)
 abbrev pub saidElement : Element → paper.Element
 saidElement e = record { place = e .place; tag = e .tag; key = part.said (e .key); value = part.said (e .value) }
 
-abbrev pub saidFramed : Framed → Answer paper.Element
-saidFramed (framed.Is e) = gives (saidElement e)
-saidFramed (framed.Refused k) = refuses k 0
+-- the element at a place whose key and value are so long
+abbrev pub sized : ℕ → ℕ → ℕ → ℕ → paper.Element
+sized place tag key value = record { place = place; tag = tag; key = bytes.part (place + 1) key; value = bytes.part (place + 1 + key + 1) value }
+
+abbrev pub saidSizes : ℕ → Sizes → Answer paper.Step
+saidSizes place (sizes.Yield tag key value) = gives (paper.yield (sized place tag key value))
+saidSizes place sizes.End = gives paper.end
+saidSizes place (sizes.Refused k p) = refuses k p
 
 abbrev pub said : Step → Answer paper.Step
 said (Yield e c) = gives (paper.yield (saidElement e))

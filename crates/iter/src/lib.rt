@@ -1,12 +1,11 @@
 // The cursor and the step (document 01, "Admission and one step"; src/raw/iter.rs of the Rust).
 ghost use mathlib.Core.Path.{_≡_};
-ghost use mathlib.Core.Bool.{false, _&&_};
+ghost use mathlib.Core.Bool.{true, false};
 ghost use Prim.Native.Nat.{_<_};
-ghost use lib.Dec.{leb};
 ghost use lib.ListN.{length};
 ghost use Rattle.bson.specs.Answer.{at};
-ghost use Rattle.bson.specs.Step.{cursor, element, yielding, step, keyAt};
-ghost use Rattle.iter.specs.Said.{saidCursor, saidFramed, Answers};
+ghost use Rattle.bson.specs.Step.{cursor, yielding, step, keyAt};
+ghost use Rattle.iter.specs.Said.{saidCursor, saidSizes, Answers};
 use cstr::Length;
 use part::Part;
 
@@ -40,83 +39,62 @@ pub enum Step {
     },
 }
 
-// The element at a place, or the number of its refusal.
-enum Framed {
-    Is(Element),
-    Refused(u8),
+// What a step at an offset answers: an element's tag, and how long its key and its value are. It is flat, so that no caller copies it.
+pub enum Sizes {
+    Yield { tag: u8, key: usize, value: usize },
+    End,
+    Refused { number: u8, place: usize },
 }
 
 // Key, tag, framing, in this order: 6, 7, then the refusals of the value's class.
-fn element_at(s: &[u8], place: usize) -> Framed
+fn element_at(s: &[u8], place: usize) -> Sizes
     requires { ⌜ place < length (now s) ⌝ }
-    ensures { λ r. ⌜ saidFramed r ≡ element (now (s .entry)) place ⌝ }
+    ensures { λ r. ⌜ saidSizes place r ≡ at place (yielding (now (s .entry)) place) ⌝ }
 {
     let start = place + 1;
     match cstr::read_cstring(&s[start..]) {
-        Length::Refused(why) => Framed::Refused(why),
-        Length::Is(size) => {
-            let key = Part {
-                offset: start,
-                size,
-            };
+        Length::Refused(why) => Sizes::Refused { number: why, place },
+        Length::Is(key) => {
             let tag = s[place];
-            let offset = start + size + 1;
+            let offset = start + key + 1;
             match framing::value_len(tag, &s[offset..]) {
-                Length::Refused(number) => Framed::Refused(number),
-                Length::Is(size) => {
-                    let value = Part { offset, size };
-                    Framed::Is(Element {
-                        place,
-                        tag,
-                        key,
-                        value,
-                    })
-                }
+                Length::Refused(number) => Sizes::Refused { number, place },
+                Length::Is(value) => Sizes::Yield { tag, key, value },
             }
         }
     }
 }
 
-// The step at an element: the next one begins where its value ends.
-fn step_at_element(s: &[u8], offset: usize) -> Step
-    requires { ⌜ offset < length (now s) ⌝ }
-    ensures { λ r. ⌜ Answers r (cursor offset false) (at offset (yielding (now (s .entry)) offset)) ⌝ }
+// The step at an open cursor, which all steps go through: admission 1, 2, 3; 4; the end at the terminator; then the element.
+pub fn sizes_at(s: &[u8], offset: usize) -> Sizes
+    ensures { λ r. ⌜ saidSizes offset r ≡ step (now (s .entry)) (cursor offset false) ⌝ }
 {
-    match element_at(s, offset) {
-        Framed::Refused(number) => {
-            let next = Cursor {
-                offset,
-                ended: true,
-            };
-            Step::Refused {
-                number,
+    match raw::admit(s) {
+        Length::Refused(number) => Sizes::Refused { number, place: 0 },
+        Length::Is(n) => {
+            let outside = Sizes::Refused {
+                number: 4,
                 place: offset,
-                next,
-            }
-        }
-        Framed::Is(element) => {
-            let value = element.value;
-            let next = Cursor {
-                offset: value.offset + value.size,
-                ended: false,
             };
-            Step::Yield { element, next }
+            let terminator = n - 1;
+            if offset < terminator {
+                if 4 <= offset {
+                    return element_at(s, offset);
+                }
+                return outside;
+            }
+            if offset == terminator {
+                return Sizes::End;
+            }
+            outside
         }
     }
 }
 
-// Whether a step may begin at an offset: not before 4, and not past the terminator.
-fn begins(offset: usize, terminator: usize) -> bool
-    ensures { λ r. ⌜ r ≡ (leb 4 offset && leb offset terminator) ⌝ }
+// The step at an ended cursor: admission, then the end.
+fn stay(s: &[u8], offset: usize) -> Step
+    ensures { λ r. ⌜ Answers r (cursor offset true) (step (now (s .entry)) (cursor offset true)) ⌝ }
 {
-    (4 <= offset) & (offset <= terminator)
-}
-
-// The step at a cursor: admission 1, 2, 3; an ended cursor ends; 4; the end at the terminator; then the element.
-pub fn next(s: &[u8], cursor: Cursor) -> Step
-    ensures { λ r. ⌜ Answers r (saidCursor cursor) (step (now (s .entry)) (saidCursor cursor)) ⌝ }
-{
-    let offset = cursor.offset;
     let next = Cursor {
         offset,
         ended: true,
@@ -127,24 +105,58 @@ pub fn next(s: &[u8], cursor: Cursor) -> Step
             place: 0,
             next,
         },
-        Length::Is(n) => {
-            if cursor.ended {
-                return Step::End { next };
-            }
-            let terminator = n - 1;
-            if begins(offset, terminator) {
-                if offset == terminator {
-                    return Step::End { next };
-                }
-                return step_at_element(s, offset);
-            }
-            Step::Refused {
-                number: 4,
+        Length::Is(_) => Step::End { next },
+    }
+}
+
+// The step at an open cursor: the next one begins where the element's value ends.
+fn advance(s: &[u8], offset: usize) -> Step
+    ensures { λ r. ⌜ Answers r (cursor offset false) (step (now (s .entry)) (cursor offset false)) ⌝ }
+{
+    let next = Cursor {
+        offset,
+        ended: true,
+    };
+    match sizes_at(s, offset) {
+        Sizes::End => Step::End { next },
+        Sizes::Refused { number, place } => Step::Refused {
+            number,
+            place,
+            next,
+        },
+        Sizes::Yield { tag, key, value } => {
+            let start = offset + 1;
+            let behind = start + key + 1;
+            let end = behind + value;
+            let element = Element {
                 place: offset,
-                next,
-            }
+                tag,
+                key: Part {
+                    offset: start,
+                    size: key,
+                },
+                value: Part {
+                    offset: behind,
+                    size: value,
+                },
+            };
+            let next = Cursor {
+                offset: end,
+                ended: false,
+            };
+            Step::Yield { element, next }
         }
     }
+}
+
+// The step at a cursor: admission 1, 2, 3; an ended cursor ends; 4; the end at the terminator; then the element.
+pub fn next(s: &[u8], cursor: Cursor) -> Step
+    ensures { λ r. ⌜ Answers r (saidCursor cursor) (step (now (s .entry)) (saidCursor cursor)) ⌝ }
+{
+    if cursor.ended {
+        return stay(s, cursor.offset);
+    }
+    advance(s, cursor.offset)
 }
 
 // The key of the element that the step yields, as a part of the slice; empty where the step, its twin, yields none.

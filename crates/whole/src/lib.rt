@@ -27,6 +27,8 @@ fn walk_document(s: &[u8], strict: bool, level: Level) -> Verdict
     requires { ⌜ level .base + length (now s) < 2 ^ 63 ⌝ }
     ensures { λ r. ⌜ said r ≡ walk strict (now (s .entry)) (saidLevel level) ⌝ }
 {
+    // a part made here is handed on as two words, and not copied as one from the caller's two
+    let whole = &s[0..];
     let mut offset: usize = 4;
     let mut count: usize = 0;
     loop {
@@ -34,7 +36,7 @@ fn walk_document(s: &[u8], strict: bool, level: Level) -> Verdict
             offset,
             ended: false,
         };
-        match iter::next(s, cursor) {
+        match iter::next(whole, cursor) {
             Step::End { next: _ } => {
                 return Verdict::Accepted(count);
             }
@@ -43,12 +45,13 @@ fn walk_document(s: &[u8], strict: bool, level: Level) -> Verdict
                 place,
                 next: _,
             } => {
+                let outer = level.base + place;
                 return Verdict::Refused {
                     number,
-                    place: level.base + place,
+                    place: outer,
                 };
             }
-            Step::Yield { element, next } => match open_value(s, strict, level, element) {
+            Step::Yield { element, next } => match open_value(whole, strict, level, element) {
                 Verdict::Refused { number, place } => {
                     return Verdict::Refused { number, place };
                 }

@@ -3,15 +3,15 @@ use Prim.Native.Nat.{ℕ, _+_, _-_, _<_}
 use mathlib.Core.Path.{_≡_, ap, sym, _∙_}
 use mathlib.Core.List.{List}
 use lib.ListN.{length, getD, take, drop, length-drop}
-use Rattle.bson.specs.Answer.{Answer, gives, refuses, then}
-use Rattle.bson.specs.Bytes.{part}
+use Rattle.bson.specs.Answer.{Answer, gives, refuses, then, at}
 use Rattle.bson.specs.Cstring.{cstring}
 use Rattle.bson.specs.Framing.{valueSize}
-use Rattle.bson.specs.Step.{element}
+use Rattle.bson.specs.Step.{element, yield, yielding}
 use Rattle.laws.proofs.Common.{rest-part}
 use Rattle.laws.proofs.CstringLaws.{cstring-below}
 use Rattle.laws.proofs.AnswerLaws.{answered}
 use Rattle.cstr.specs.Said.{said}
+use Rattle.iter.specs.Said.{sized}
 use borrow.Author.Needs.{needs}
 use native.Mathlib.Omega.{arith}
 use Rattle.iter.proofs.element_at.Statement.{statement}
@@ -20,7 +20,7 @@ use Rattle.iter.proofs.element_at.Tie as tie
 abbrev rest : List ℕ → ℕ → List ℕ
 rest s a = take (length s - a) (drop a s)
 
-key-refuses : (s : List ℕ) (p n k : ℕ) → cstring (rest s (p + 1)) ≡ refuses n k → refuses n k ≡ element s p
+key-refuses : (s : List ℕ) (p n k : ℕ) → cstring (rest s (p + 1)) ≡ refuses n k → refuses n p ≡ at p (yielding s p)
 unfolding element
 key-refuses s p n k e = rw (← ap cstring (rest-part s (p + 1)), e)
 
@@ -30,7 +30,7 @@ module _ (s : List ℕ) (p k : ℕ) (key : cstring (rest s (p + 1)) ≡ gives k)
 
   -- what the rest of the slice answers for the value decides
   valued : (x : Answer ℕ) → valueSize (getD s p 0) (rest s (p + 1 + k + 1)) ≡ x
-      → then x (λ n. gives (record { place = p; tag = getD s p 0; key = part (p + 1) k; value = part (p + 1 + k + 1) n })) ≡ element s p
+      → at p (then x (λ n. gives (yield (sized p (getD s p 0) k n)))) ≡ at p (yielding s p)
   unfolding element
   valued (gives n) e = rw (← ap cstring (rest-part s (p + 1)), key, ← ap (valueSize _) (rest-part s (p + 1 + k + 1)), e)
   valued (refuses n q) e = rw (← ap cstring (rest-part s (p + 1)), key, ← ap (valueSize _) (rest-part s (p + 1 + k + 1)), e)
@@ -48,13 +48,13 @@ part-read-cstring-end : tie.Need-part-read-cstring-end
 part-read-cstring-end c = search needs
 
 read-cstring-requires : tie.Need-read-cstring-requires
-read-cstring-requires c κs = search needs
+read-cstring-requires c κs = tt
 
 enum-known-why : tie.Need-enum-known-why
-enum-known-why c = search needs
+enum-known-why c = c .match .keys1
 
-enum-known-size : tie.Need-enum-known-size
-enum-known-size c = search needs
+enum-known-key : tie.Need-enum-known-key
+enum-known-key c = c .match .keys2
 
 shared-slice-read-tag : tie.Need-shared-slice-read-tag
 shared-slice-read-tag c = search needs
@@ -63,37 +63,37 @@ add-offset : tie.Need-add-offset
 add-offset c =
     let b = c .before .before in
     let a = b .before .before .before .before .before .args in
-    omega (arith, key-below (a .s .now) (a .place) _ (answered said (b .before .before .read-cstring .ensures) (b .size .given .1)))
+    omega (arith, key-below (a .s .now) (a .place) _ (answered said (b .before .before .read-cstring .ensures) (b .key .given .1)))
 
 add-offset-2 : tie.Need-add-offset-2
 add-offset-2 c =
     let b = c .before .before in
     let a = b .before .before .before .before .before .args in
-    omega (arith, key-below (a .s .now) (a .place) _ (answered said (b .before .before .read-cstring .ensures) (b .size .given .1)))
+    omega (arith, key-below (a .s .now) (a .place) _ (answered said (b .before .before .read-cstring .ensures) (b .key .given .1)))
 
 sub-value-len : tie.Need-sub-value-len
 sub-value-len c =
     let b = c .before .before in
     let a = b .before .before .before .before .before .args in
-    omega (arith, key-below (a .s .now) (a .place) _ (answered said (b .before .before .read-cstring .ensures) (b .size .given .1)))
+    omega (arith, key-below (a .s .now) (a .place) _ (answered said (b .before .before .read-cstring .ensures) (b .key .given .1)))
 
 part-value-len-start : tie.Need-part-value-len-start
 part-value-len-start c =
     let b = c .before .before in
     let a = b .before .before .before .before .before .args in
-    omega (arith, key-below (a .s .now) (a .place) _ (answered said (b .before .before .read-cstring .ensures) (b .size .given .1)))
+    omega (arith, key-below (a .s .now) (a .place) _ (answered said (b .before .before .read-cstring .ensures) (b .key .given .1)))
 
 part-value-len-end : tie.Need-part-value-len-end
 part-value-len-end c = search needs
 
 value-len-requires : tie.Need-value-len-requires
-value-len-requires c κs = search needs
+value-len-requires c κs = tt
 
 enum-known-number : tie.Need-enum-known-number
-enum-known-number c = search needs
+enum-known-number c = c .match2 .keys1
 
-enum-known-size-2 : tie.Need-enum-known-size-2
-enum-known-size-2 c = search needs
+enum-known-value : tie.Need-enum-known-value
+enum-known-value c = c .match2 .keys2
 
 returns : tie.Need-returns
 returns c = key-refuses _ _ _ _ (answered said (c .before .before .before .read-cstring .ensures) (c .before .why .given .1))
@@ -101,14 +101,14 @@ returns c = key-refuses _ _ _ _ (answered said (c .before .before .before .read-
 returns-2 : tie.Need-returns-2
 returns-2 c =
     let b = c .before .before .before .before .before .before .before in
-    valued _ _ _ (answered said (b .before .before .read-cstring .ensures) (b .size .given .1))
+    valued _ _ _ (answered said (b .before .before .read-cstring .ensures) (b .key .given .1))
     _ (answered said (c .before .before .before .value-len .ensures) (c .before .number .given .1))
 
 returns-3 : tie.Need-returns-3
 returns-3 c =
     let b = c .before .before .before .before .before .before .before in
-    valued _ _ _ (answered said (b .before .before .read-cstring .ensures) (b .size .given .1))
-    _ (answered said (c .before .before .before .value-len .ensures) (c .before .size2 .given .1))
+    valued _ _ _ (answered said (b .before .before .read-cstring .ensures) (b .key .given .1))
+    _ (answered said (c .before .before .before .value-len .ensures) (c .before .value .given .1))
 
 pub element-at-spec : {M : Type 1} → statement M
 element-at-spec =
@@ -120,7 +120,7 @@ element-at-spec =
     part-read-cstring-end
     read-cstring-requires
     enum-known-why
-    enum-known-size
+    enum-known-key
     shared-slice-read-tag
     add-offset
     add-offset-2
@@ -129,7 +129,7 @@ element-at-spec =
     part-value-len-end
     value-len-requires
     enum-known-number
-    enum-known-size-2
+    enum-known-value
     returns
     returns-2
     returns-3)

@@ -1,11 +1,12 @@
 -- `whole::walk_document` and `whole::open_value`, which call each other, meet their contracts: the depth left plus the bytes left fall (document
 -- 01, "Where each language form belongs"). Assumes nothing.
-use mathlib.Core.Path.{refl, sym, ap, _∙_}
+use mathlib.Core.Path.{_≡_, refl, sym, ap, _∙_}
 use native.Mathlib.Omega.{arith}
 use lib.ListN.{length}
 use borrow.Author.Needs.{needs}
 use Rattle.iter.specs.Said as step
 use Rattle.laws.proofs.AnswerLaws.{answered}
+use Rattle.laws.proofs.Common.{rest-part}
 use Rattle.laws.proofs.StepLaws.{step-yields}
 use Rattle.laws.proofs.AdvanceLaws.{next-lands}
 use Rattle.laws.proofs.CheckLaws.{opened-count}
@@ -162,15 +163,25 @@ open-value-returns-4 t c position =
     let w = answered said (c .before .before .before .walk-document .ensures) (c .before .values .given .1) in
     opened-inside _ _ _ position _ _ _ _ v _ d _ (sym w)
 
+-- the loop goes over `whole`, which is all of the slice
 abbrev Inv-loop : walk-document-lts.InvT-loop
-Inv-loop s strict level offset₀ count₀ offset count =
-    (position : ℕ) × (count + 4 ≤ offset) × (offset ≤ length s + 4) × LeftFrom strict s (saidLevel level) offset count position
+Inv-loop s strict level whole offset₀ count₀ offset count =
+    (whole ≡ s) × (position : ℕ) × (count + 4 ≤ offset) × (offset ≤ length s + 4) × LeftFrom strict s (saidLevel level) offset count position
 
 abbrev μ-loop : walk-document-lts.MeasureT-loop
-μ-loop s strict level offset₀ count₀ offset count = length s + 4 - offset
+μ-loop s strict level whole offset₀ count₀ offset count = length s + 4 - offset
+
+walk-document-sub-whole : (t : ℕ) → walk-document-lts.Need-sub-whole (walk-calls t) (walk-at t) walk-document.Post Inv-loop μ-loop
+walk-document-sub-whole t c = search needs
+
+walk-document-part-whole-start : (t : ℕ) → walk-document-lts.Need-part-whole-start (walk-calls t) (walk-at t) walk-document.Post Inv-loop μ-loop
+walk-document-part-whole-start t c = search needs
+
+walk-document-part-whole-end : (t : ℕ) → walk-document-lts.Need-part-whole-end (walk-calls t) (walk-at t) walk-document.Post Inv-loop μ-loop
+walk-document-part-whole-end t c = search needs
 
 walk-document-loop-holds : (t : ℕ) → walk-document-lts.Need-loop-holds (walk-calls t) (walk-at t) walk-document.Post Inv-loop μ-loop
-walk-document-loop-holds t c = (0, omega arith, omega arith, left-first _ _ _)
+walk-document-loop-holds t c = (rest-part _ 0, 0, omega arith, omega arith, left-first _ _ _)
 
 walk-document-next-requires : (t : ℕ) → walk-document-lts.Need-next-requires (walk-calls t) (walk-at t) walk-document.Post Inv-loop μ-loop
 walk-document-next-requires t c κs = search needs
@@ -180,30 +191,34 @@ walk-document-enum-told t c = search needs
 
 walk-document-returns : (t : ℕ) → walk-document-lts.Need-returns (walk-calls t) (walk-at t) walk-document.Post Inv-loop μ-loop
 walk-document-returns t c =
+    let i = c .before .before .before .loop .inv in
     let x = answered step.said (c .before .before .next .ensures .0) (c .enum-told .given .1) in
-    left-ends _ _ _ _ _ _ (c .before .before .before .loop .inv .3) x
+    left-ends _ _ _ _ _ _ (i .4) (rw (i .0) at x)
 
 walk-document-enum-known-number : (t : ℕ) → walk-document-lts.Need-enum-known-number (walk-calls t) (walk-at t) walk-document.Post Inv-loop μ-loop
 walk-document-enum-known-number t c = search needs
 
-walk-document-add-t15 : (t : ℕ) → walk-document-lts.Need-add-t15 (walk-calls t) (walk-at t) walk-document.Post Inv-loop μ-loop
-walk-document-add-t15 t c =
-    let x = answered step.said (c .before .before .before .before .next .ensures .0) (c .before .before .number .given .1) in
+walk-document-add-outer : (t : ℕ) → walk-document-lts.Need-add-outer (walk-calls t) (walk-at t) walk-document.Post Inv-loop μ-loop
+walk-document-add-outer t c =
     let i = c .before .before .before .before .before .loop .inv in
-    omega (arith, refused-place _ _ _ _ x)
+    let x = answered step.said (c .before .before .before .before .next .ensures .0) (c .before .before .number .given .1) in
+    omega (arith, refused-place _ _ _ _ (rw (i .0) at x))
 
 walk-document-returns-2 : (t : ℕ) → walk-document-lts.Need-returns-2 (walk-calls t) (walk-at t) walk-document.Post Inv-loop μ-loop
 walk-document-returns-2 t c =
+    let i = c .before .before .before .before .before .loop .inv in
     let x = answered step.said (c .before .before .before .before .next .ensures .0) (c .before .before .number .given .1) in
-    left-refused _ _ _ _ _ _ (c .before .before .before .before .before .loop .inv .3) _ _ x
+    left-refused _ _ _ _ _ _ (i .4) _ _ (rw (i .0) at x)
 
 walk-document-enum-known-element : (t : ℕ) → walk-document-lts.Need-enum-known-element (walk-calls t) (walk-at t) walk-document.Post Inv-loop μ-loop
 walk-document-enum-known-element t c = search needs
 
 walk-document-open-value-requires : (t : ℕ) → walk-document-lts.Need-open-value-requires (walk-calls t) (walk-at t) walk-document.Post Inv-loop μ-loop
 walk-document-open-value-requires t c κs =
+    let i = c .before .before .before .before .loop .inv in
     let x = answered step.said (c .before .before .before .next .ensures .0) (c .before .element .given .1) in
     let y = yields-placed _ _ _ x in
+    let l = ap length (i .0) in
     (omega arith, (omega arith, y))
 
 walk-document-enum-known-number-2 : (t : ℕ) → walk-document-lts.Need-enum-known-number-2 (walk-calls t) (walk-at t) walk-document.Post Inv-loop μ-loop
@@ -214,8 +229,8 @@ walk-document-returns-3 t c =
     let i = c .before .before .before .before .before .before .before .before .loop .inv in
     let b = c .before .before .before .before .before in
     let x = answered step.said (b .before .before .next .ensures .0) (b .element .given .1) in
-    let o = answered said (c .before .before .before .open-value .ensures (i .0)) (c .before .number2 .given .1) in
-    left-value-refused _ _ _ _ _ _ (i .3) _ x _ _ (sym o)
+    let o = answered said (c .before .before .before .open-value .ensures (i .1)) (c .before .number2 .given .1) in
+    left-value-refused _ _ _ _ _ _ (i .4) _ (rw (i .0) at x) _ _ (sym (rw (i .0) at o))
 
 walk-document-enum-known-values : (t : ℕ) → walk-document-lts.Need-enum-known-values (walk-calls t) (walk-at t) walk-document.Post Inv-loop μ-loop
 walk-document-enum-known-values t c = search needs
@@ -225,9 +240,10 @@ walk-document-add-count t c =
     let i = c .before .before .before .before .before .before .before .before .loop .inv in
     let b = c .before .before .before .before .before in
     let x = answered step.said (b .before .before .next .ensures .0) (b .element .given .1) in
-    let o = answered said (c .before .before .before .open-value .ensures (i .0)) (c .before .values .given .1) in
+    let o = answered said (c .before .before .before .open-value .ensures (i .1)) (c .before .values .given .1) in
     let y = step-yields _ _ _ x in
-    let k = opened-count _ _ _ (i .0) _ _ y _ o in
+    let k = opened-count _ _ _ (i .1) _ _ y _ o in
+    let l = ap length (i .0) in
     omega arith
 
 walk-document-loop-less : (t : ℕ) → walk-document-lts.Need-loop-less (walk-calls t) (walk-at t) walk-document.Post Inv-loop μ-loop
@@ -237,6 +253,7 @@ walk-document-loop-less t c =
     let x = answered step.said (b .before .before .next .ensures .0) (b .element .given .1) in
     let y = step-yields _ _ _ x in
     let n = next-lands _ _ _ _ _ x (sym (b .before .before .next .ensures .1) ∙ ap step.behind (b .element .given .1)) in
+    let l = ap length (i .0) in
     omega arith
 
 walk-document-loop-again : (t : ℕ) → walk-document-lts.Need-loop-again (walk-calls t) (walk-at t) walk-document.Post Inv-loop μ-loop
@@ -244,11 +261,12 @@ walk-document-loop-again t c =
     let i = c .before .before .before .before .before .before .before .before .loop .inv in
     let b = c .before .before .before .before .before in
     let x = answered step.said (b .before .before .next .ensures .0) (b .element .given .1) in
-    let o = answered said (c .before .before .before .open-value .ensures (i .0)) (c .before .values .given .1) in
+    let o = answered said (c .before .before .before .open-value .ensures (i .1)) (c .before .values .given .1) in
     let y = step-yields _ _ _ x in
-    let k = opened-count _ _ _ (i .0) _ _ y _ o in
+    let k = opened-count _ _ _ (i .1) _ _ y _ o in
     let n = next-lands _ _ _ _ _ x (sym (b .before .before .next .ensures .1) ∙ ap step.behind (b .element .given .1)) in
-    (suc (i .0), omega arith, omega arith, rw n (left-onward _ _ _ _ _ _ (i .3) _ x _ (sym o)))
+    let l = ap length (i .0) in
+    (i .0, suc (i .1), omega arith, omega arith, rw n (left-onward _ _ _ _ _ _ (i .4) _ (rw (i .0) at x) _ (sym (rw (i .0) at o))))
 
 pub +open-value+walk-document-spec : {M : Type 1} → statement M
 +open-value+walk-document-spec = close μ-open-value μ-walk-document (λ t. open-value-lts.spec (open-calls t)
@@ -277,12 +295,15 @@ pub +open-value+walk-document-spec : {M : Type 1} → statement M
     walk-document.Post
     Inv-loop
     μ-loop
+    (walk-document-sub-whole t)
+    (walk-document-part-whole-start t)
+    (walk-document-part-whole-end t)
     (walk-document-loop-holds t)
     (walk-document-next-requires t)
     (walk-document-enum-told t)
     (walk-document-returns t)
     (walk-document-enum-known-number t)
-    (walk-document-add-t15 t)
+    (walk-document-add-outer t)
     (walk-document-returns-2 t)
     (walk-document-enum-known-element t)
     (walk-document-open-value-requires t)
