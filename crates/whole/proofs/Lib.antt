@@ -1,2 +1,3 @@
+mod Framed
 pub mod Walk
 pub mod Determined

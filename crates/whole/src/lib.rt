@@ -4,15 +4,17 @@ ghost use mathlib.Core.Path.{_≡_};
 ghost use mathlib.Core.Bool.{true, false};
 ghost use lib.ListN.{length};
 ghost use Rattle.bson.specs.Step.{cursor};
-ghost use Rattle.bson.specs.Check.{opened, walk, check as checkOf};
+ghost use Rattle.bson.specs.Check.{visit as visitOf, opened, walk, check as checkOf};
 ghost use Rattle.laws.proofs.StepLaws.{Yields};
 ghost use Rattle.iter.specs.Said.{saidElement};
-ghost use Rattle.visiting.specs.Said.{saidLevel};
+ghost use Rattle.visiting.specs.Said.{saidLevel, saidVisited};
 ghost use Rattle.whole.specs.Said.{said};
+ghost use Rattle.whole.specs.Told.{Holds};
 use iter::Cursor;
 use iter::Element;
 use iter::Step;
 use opening::Opening;
+use tags::Kind;
 use visiting::Level;
 use visiting::Visited;
 
@@ -64,17 +66,69 @@ fn walk_document(s: &[u8], strict: bool, level: Level) -> Verdict
     }
 }
 
+// What framing has told of a value: that it can be read and opens nothing, or a document or an array, or nothing yet.
+enum Told {
+    Closed,
+    Opens { array: bool },
+    Unread,
+}
+
+// Of a fixed size all bytes are values, but for a boolean's one byte; framing asks of documents all that reading asks.
+fn tell(strict: bool, level: Level, tag: u8) -> Told
+    ensures { λ r. ⌜ Holds r strict (saidLevel level) tag ⌝ }
+{
+    if strict {
+        return Told::Unread;
+    }
+    if 200 < level.depth {
+        return Told::Unread;
+    }
+    if tag == 0x03 {
+        return Told::Opens { array: false };
+    }
+    if tag == 0x04 {
+        return Told::Opens { array: true };
+    }
+    match tags::kind_of(tag) {
+        Kind::Fixed(n) => {
+            if n == 1 {
+                return Told::Unread;
+            }
+            Told::Closed
+        }
+        _ => Told::Unread,
+    }
+}
+
+// Visits a value that a step yielded, and reads it only where framing has not told enough.
+fn visit_framed(s: &[u8], strict: bool, level: Level, element: Element) -> Visited
+    requires { ⌜ Yields (now s) (cursor (element .place) false) (saidElement element) ⌝ }
+    ensures { λ r. ⌜ ((position : ℕ) → saidVisited (level .base + element .place) r
+        ≡ visitOf strict (now (s .entry)) (saidLevel level) position (saidElement element)) ⌝ }
+{
+    let inner = element.value;
+    match tell(strict, level, element.tag) {
+        Told::Closed => Visited::Is(Opening::Closed),
+        Told::Opens { array } => Visited::Is(Opening::Opens {
+            array,
+            levels: 1,
+            inner,
+        }),
+        Told::Unread => visiting::visit(s, strict, level, element),
+    }
+}
+
 // Opens a value that a step yielded: visits it, and walks the document inside it, if there is one.
 fn open_value(s: &[u8], strict: bool, level: Level, element: Element) -> Verdict
     requires { ⌜ (level .base + length (now s) < 2 ^ 63) × Yields (now s) (cursor (element .place) false) (saidElement element) ⌝ }
     ensures { λ r. ⌜ ((position : ℕ) → said r
         ≡ opened strict (walk strict) (now (s .entry)) (saidLevel level) position (saidElement element)) ⌝ }
 {
-    match visiting::visit(s, strict, level, element) {
-        Visited::Refused(number) => Verdict::Refused {
-            number,
-            place: level.base + element.place,
-        },
+    match visit_framed(s, strict, level, element) {
+        Visited::Refused(number) => {
+            let place = level.base + element.place;
+            Verdict::Refused { number, place }
+        }
         Visited::Is(opening) => match opening {
             Opening::Closed => Verdict::Accepted(1),
             Opening::Opens {
@@ -82,14 +136,15 @@ fn open_value(s: &[u8], strict: bool, level: Level, element: Element) -> Verdict
                 levels,
                 inner,
             } => {
-                let deeper = Level {
-                    array,
-                    base: level.base + inner.offset,
-                    depth: level.depth + levels,
-                };
+                let base = level.base + inner.offset;
+                let depth = level.depth + levels;
+                let deeper = Level { array, base, depth };
                 match walk_document(part::bytes_of(s, inner), strict, deeper) {
                     Verdict::Refused { number, place } => Verdict::Refused { number, place },
-                    Verdict::Accepted(values) => Verdict::Accepted(1 + values),
+                    Verdict::Accepted(values) => {
+                        let all = 1 + values;
+                        Verdict::Accepted(all)
+                    }
                 }
             }
         },

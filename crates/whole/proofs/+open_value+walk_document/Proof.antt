@@ -27,7 +27,7 @@ use Rattle.whole.proofs.walk_document.Kinds as walk-document-kinds
 use Rattle.whole.proofs.+open_value+walk_document.Lts-walk_document as walk-document-lts
 use Rattle.iter.proofs.next.Reads as next-reads
 use Rattle.part.proofs.bytes_of.Reads as bytes-of-reads
-use Rattle.visiting.proofs.visit.Reads as visit-reads
+use Rattle.whole.proofs.visit_framed.Reads as visit-framed-reads
 use Rattle.whole.proofs.+open_value+walk_document.{statement}
 use Rattle.whole.proofs.+open_value+walk_document.Tie.{close}
 
@@ -59,19 +59,19 @@ walk-below t =
 
 -- what the callees ask and tell; of those in the cycle, below the measure
 abbrev open-calls : ℕ → open-value-lts.Claims
-open-calls t = (visit-reads.Asked, visit-reads.Learnt, bytes-of-reads.Asked, bytes-of-reads.Learnt, walk-below t, walk-document.Post)
+open-calls t = (visit-framed-reads.Asked, visit-framed-reads.Learnt, bytes-of-reads.Asked, bytes-of-reads.Learnt, walk-below t, walk-document.Post)
 
 abbrev walk-calls : ℕ → walk-document-lts.Claims
 walk-calls t = (next-reads.Asked, next-reads.Learnt, open-below t, open-value.Post)
 
-open-value-visit-requires : (t : ℕ) → open-value-lts.Need-visit-requires (open-calls t) (open-at t) open-value.Post
-open-value-visit-requires t c κs = search needs
+open-value-visit-framed-requires : (t : ℕ) → open-value-lts.Need-visit-framed-requires (open-calls t) (open-at t) open-value.Post
+open-value-visit-framed-requires t c κs = c .before .pre .1 .1
 
 open-value-enum-known-number : (t : ℕ) → open-value-lts.Need-enum-known-number (open-calls t) (open-at t) open-value.Post
 open-value-enum-known-number t c = search needs
 
-open-value-add-t16 : (t : ℕ) → open-value-lts.Need-add-t16 (open-calls t) (open-at t) open-value.Post
-open-value-add-t16 t c = let y = c .before .before .before .before .before .before .before .pre .1 .1 in omega arith
+open-value-add-place : (t : ℕ) → open-value-lts.Need-add-place (open-calls t) (open-at t) open-value.Post
+open-value-add-place t c = let y = c .before .before .before .before .before .before .before .pre .1 .1 in omega arith
 
 open-value-enum-known-opening : (t : ℕ) → open-value-lts.Need-enum-known-opening (open-calls t) (open-at t) open-value.Post
 open-value-enum-known-opening t c = search needs
@@ -82,20 +82,20 @@ open-value-enum-told t c = search needs
 open-value-enum-known-opening-2 : (t : ℕ) → open-value-lts.Need-enum-known-opening-2 (open-calls t) (open-at t) open-value.Post
 open-value-enum-known-opening-2 t c = search needs
 
-open-value-add-t18 : (t : ℕ) → open-value-lts.Need-add-t18 (open-calls t) (open-at t) open-value.Post
-open-value-add-t18 t c =
+open-value-add-base : (t : ℕ) → open-value-lts.Need-add-base (open-calls t) (open-at t) open-value.Post
+open-value-add-base t c =
     let b = c .before .before .before in
     let v =
-    visited-is _ _ _ _ (b .before .before .before .before .before .visit .ensures 0)
+    visited-is _ _ _ _ (b .before .before .before .before .before .visit-framed .ensures 0)
     (b .before .before .before .opening .given .1 ∙ ap Is (b .opening2 .given .1)) in
     let p = b .before .before .before .before .before .before .before .pre in
     record { fits = base-fits _ _ _ 0 _ _ _ _ v _ refl _ (p .1 .1) (p .1 .0) }
 
-open-value-add-t19 : (t : ℕ) → open-value-lts.Need-add-t19 (open-calls t) (open-at t) open-value.Post
-open-value-add-t19 t c =
+open-value-add-depth : (t : ℕ) → open-value-lts.Need-add-depth (open-calls t) (open-at t) open-value.Post
+open-value-add-depth t c =
     let b = c .before .before .before .before in
     let v =
-    visited-is _ _ _ _ (b .before .before .before .before .before .visit .ensures 0)
+    visited-is _ _ _ _ (b .before .before .before .before .before .visit-framed .ensures 0)
     (b .before .before .before .opening .given .1 ∙ ap Is (b .opening2 .given .1)) in
     let p = b .before .before .before .before .before .before .before .pre in
     record { fits = depth-fits _ _ _ 0 _ _ _ _ v _ refl _ (p .1 .1) }
@@ -107,7 +107,7 @@ open-value-walk-document-requires : (t : ℕ) → open-value-lts.Need-walk-docum
 open-value-walk-document-requires t c κs =
     let b = c .before .before .before .before .before in
     let v =
-    visited-is _ _ _ _ (b .before .before .before .before .before .visit .ensures 0)
+    visited-is _ _ _ _ (b .before .before .before .before .before .visit-framed .ensures 0)
     (b .before .before .before .opening .given .1 ∙ ap Is (b .opening2 .given .1)) in
     let p = b .before .before .before .before .before .before .before .pre in
     let d = c .bytes-of .ensures in
@@ -119,11 +119,11 @@ open-value-enum-known-number-2 t c = search needs
 open-value-enum-known-values : (t : ℕ) → open-value-lts.Need-enum-known-values (open-calls t) (open-at t) open-value.Post
 open-value-enum-known-values t c = search needs
 
-open-value-add-t23 : (t : ℕ) → open-value-lts.Need-add-t23 (open-calls t) (open-at t) open-value.Post
-open-value-add-t23 t c =
+open-value-add-all : (t : ℕ) → open-value-lts.Need-add-all (open-calls t) (open-at t) open-value.Post
+open-value-add-all t c =
     let b = c .before .before .before .before .before .before .before .before .before in
     let v =
-    visited-is _ _ _ _ (b .before .before .before .before .before .visit .ensures 0)
+    visited-is _ _ _ _ (b .before .before .before .before .before .visit-framed .ensures 0)
     (b .before .before .before .opening .given .1 ∙ ap Is (b .opening2 .given .1)) in
     let p = b .before .before .before .before .before .before .before .pre in
     let d = c .before .before .before .before .bytes-of .ensures in
@@ -133,13 +133,13 @@ open-value-add-t23 t c =
 
 open-value-returns : (t : ℕ) → open-value-lts.Need-returns (open-calls t) (open-at t) open-value.Post
 open-value-returns t c position =
-    let v = visited-refused _ _ _ _ (c .before .before .before .before .before .visit .ensures position) (c .before .before .before .number .given .1) in
+    let v = visited-refused _ _ _ _ (c .before .before .before .before .before .visit-framed .ensures position) (c .before .before .before .number .given .1) in
     opened-refused _ _ _ position _ _ _ v
 
 open-value-returns-2 : (t : ℕ) → open-value-lts.Need-returns-2 (open-calls t) (open-at t) open-value.Post
 open-value-returns-2 t c position =
     let v =
-    visited-is _ _ _ _ (c .before .before .before .before .before .visit .ensures position)
+    visited-is _ _ _ _ (c .before .before .before .before .before .visit-framed .ensures position)
     (c .before .before .before .opening .given .1 ∙ ap Is (c .enum-told .given .1)) in
     opened-closed _ _ _ position _ v
 
@@ -147,7 +147,7 @@ open-value-returns-3 : (t : ℕ) → open-value-lts.Need-returns-3 (open-calls t
 open-value-returns-3 t c position =
     let b = c .before .before .before .before .before .before .before .before .before in
     let v =
-    visited-is _ _ _ _ (b .before .before .before .before .before .visit .ensures position)
+    visited-is _ _ _ _ (b .before .before .before .before .before .visit-framed .ensures position)
     (b .before .before .before .opening .given .1 ∙ ap Is (b .opening2 .given .1)) in
     let d = c .before .before .before .before .bytes-of .ensures in
     let w = answered said (c .before .before .before .walk-document .ensures) (c .before .number2 .given .1) in
@@ -157,7 +157,7 @@ open-value-returns-4 : (t : ℕ) → open-value-lts.Need-returns-4 (open-calls t
 open-value-returns-4 t c position =
     let b = c .before .before .before .before .before .before .before .before .before in
     let v =
-    visited-is _ _ _ _ (b .before .before .before .before .before .visit .ensures position)
+    visited-is _ _ _ _ (b .before .before .before .before .before .visit-framed .ensures position)
     (b .before .before .before .opening .given .1 ∙ ap Is (b .opening2 .given .1)) in
     let d = c .before .before .before .before .bytes-of .ensures in
     let w = answered said (c .before .before .before .walk-document .ensures) (c .before .values .given .1) in
@@ -272,19 +272,19 @@ pub +open-value+walk-document-spec : {M : Type 1} → statement M
 +open-value+walk-document-spec = close μ-open-value μ-walk-document (λ t. open-value-lts.spec (open-calls t)
     (open-at t)
     open-value.Post
-    (open-value-visit-requires t)
+    (open-value-visit-framed-requires t)
     (open-value-enum-known-number t)
-    (open-value-add-t16 t)
+    (open-value-add-place t)
     (open-value-enum-known-opening t)
     (open-value-enum-told t)
     (open-value-enum-known-opening-2 t)
-    (open-value-add-t18 t)
-    (open-value-add-t19 t)
+    (open-value-add-base t)
+    (open-value-add-depth t)
     (open-value-bytes-of-requires t)
     (open-value-walk-document-requires t)
     (open-value-enum-known-number-2 t)
     (open-value-enum-known-values t)
-    (open-value-add-t23 t)
+    (open-value-add-all t)
     (open-value-returns t)
     (open-value-returns-2 t)
     (open-value-returns-3 t)

@@ -1,0 +1,50 @@
+-- `whole::visit_framed` meets its contract: what framing has told, or the visit. Assumes nothing.
+use Rattle.visiting.specs.Said.{saidVisited}
+use Rattle.whole.proofs.Framed.{visits-closed, visits-document}
+use Rattle.whole.proofs.visit_framed.Statement.{statement}
+use Rattle.whole.proofs.visit_framed.Tie as tie
+
+tell-requires : tie.Need-tell-requires
+tell-requires c κs = tt
+
+enum-told : tie.Need-enum-told
+enum-told c = c .match .keys1
+
+enum-known-array : tie.Need-enum-known-array
+enum-known-array c = c .match .keys2
+
+enum-told-2 : tie.Need-enum-told-2
+enum-told-2 c = c .match .keys3
+
+visit-requires : tie.Need-visit-requires
+visit-requires c κs = tt
+
+returns : tie.Need-returns
+unfolding saidVisited
+returns c position =
+    let h = c .before .before .tell .ensures in
+    let k = rw (c .enum-told .given .1) at h in
+    visits-closed _ _ _ (c .before .before .before .before .before .pre) _ _ (k .0) (k .1) position (k .2) (k .3) (k .4)
+
+returns-2 : tie.Need-returns-2
+unfolding saidVisited
+returns-2 c position =
+    let h = c .before .before .before .tell .ensures in
+    let k = rw (c .before .array .given .1) at h in
+    visits-document _ _ _ (c .before .before .before .before .before .before .pre) _ _ (k .0) (k .1) position _ (k .2)
+
+returns-3 : tie.Need-returns-3
+returns-3 c position = c .visit .ensures position
+
+pub visit-framed-spec : {M : Type 1} → statement M
+visit-framed-spec =
+    tie.close
+    (tie.spec
+    tell-requires
+    enum-told
+    enum-known-array
+    enum-told-2
+    visit-requires
+    returns
+    returns-2
+    returns-3)

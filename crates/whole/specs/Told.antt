@@ -1,0 +1,15 @@
+-- What framing has told of a value, where the plain check needs not read it (document 01, "The whole check").
+use Prim.Native.Nat.{ℕ, _≤_}
+use mathlib.Core.Path.{_≡_}
+use mathlib.Core.Bool.{Bool, false, cond}
+use Rattle.bson.specs.Answer.{gives}
+use Rattle.bson.specs.Level.{Level}
+use Rattle.bson.specs.Tags.{fixed, sizedOf}
+use Rattle.whole.specs.declared.Told.{Told}
+use Rattle.whole.specs.declared.Told.the-variants.{Closed, Opens, Unread}
+
+-- what each case says of the check, the level and the tag: a fixed size other than a boolean's, or the tag of a document or an array
+abbrev pub Holds : Told → Bool → Level → ℕ → Type 0
+Holds Closed strict l tag = (strict ≡ false) × (l .depth ≤ 200) × (n : ℕ) × (sizedOf tag ≡ gives (fixed n)) × (n ≡ 1 → ⊥)
+Holds (Opens array) strict l tag = (strict ≡ false) × (l .depth ≤ 200) × (tag ≡ cond array 4 3)
+Holds Unread strict l tag = record {}
