@@ -16,7 +16,14 @@ static uint8_t *page_end(void) {
 
 static uint8_t *document_end, *out_end, *key_end;
 
-/* Every call that reads, at every place: the parts that are given lie in the document; and joining with the empty document, which refuses as the check does and else gives it back. */
+/* What a step gave, read by its numbers, is what is read at its place. */
+static bool read_once(const uint8_t *document, size_t length, fringewell_stepped at, fringewell_value there) {
+    fringewell_value value = fringewell_value_of(document, length, at.place, at.tag, at.offset, at.size);
+    return at.ended == 1 || memcmp(&value, &there, sizeof value) == 0;
+}
+
+/* Every call that reads, at every place: the parts that are given lie in the document; and joining with the empty document, which refuses
+ * as the check does and else gives it back. */
 static bool answers(const uint8_t *document, size_t length) {
     static const uint8_t empty[5] = {5, 0, 0, 0, 0};
     fringewell_verdict verdict = fringewell_check(document, length);
@@ -30,7 +37,7 @@ static bool answers(const uint8_t *document, size_t length) {
         fringewell_stepped stepped = fringewell_step(document, length, place, false);
         fringewell_value value = fringewell_read(document, length, place);
         good = good && stepped.offset + stepped.size <= length && stepped.key_offset + stepped.key_size <= length &&
-               value.offset + value.size <= length && value.offset2 + value.size2 <= length;
+               value.offset + value.size <= length && value.offset2 + value.size2 <= length && read_once(document, length, stepped, value);
     }
     return good;
 }
@@ -52,6 +59,25 @@ static void damage(size_t at, uint8_t byte) {
     memcpy(document, every_type, sizeof every_type);
     document[at] = byte;
     EXPECT(answers(document, sizeof every_type));
+}
+
+/* A value that no step gave, of the last bytes: its parts lie in the document, or are empty. With one byte more it runs past the end. */
+static bool own(uint8_t tag, size_t size) {
+    const uint8_t *document = document_end - sizeof every_type;
+    size_t offset = sizeof every_type - size;
+    fringewell_value value = fringewell_value_of(document, sizeof every_type, 4, tag, offset, size);
+    return (value.size == 0 || value.offset + value.size <= sizeof every_type) &&
+           (value.size2 == 0 || value.offset2 + value.size2 <= sizeof every_type) &&
+           fringewell_value_of(document, sizeof every_type, 4, tag, offset, size + 1).number == FRINGEWELL_PAST_THE_SLICE;
+}
+
+static void owns(uint8_t tag) {
+    bool good = true;
+    memcpy(document_end - sizeof every_type, every_type, sizeof every_type);
+    for (size_t size = 0; size <= sizeof every_type; size++) {
+        good = good && own(tag, size);
+    }
+    EXPECT(good);
 }
 
 /* A writer whose buffer, key and text end at such pages, in every room up to what its document needs. */
@@ -82,6 +108,9 @@ int main(void) {
     for (size_t length = 0; length <= sizeof every_type; length++) {
         cut(length);
         write_in(length);
+    }
+    for (unsigned tag = 0; tag <= UINT8_MAX; tag++) {
+        owns((uint8_t)tag);
     }
     for (size_t at = 0; at < sizeof every_type; at++) {
         for (size_t i = 0; i < sizeof bytes; i++) {

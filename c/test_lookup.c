@@ -1,4 +1,4 @@
-/* Lookup and typed lookup. */
+/* Lookup and typed lookup (document 01, "Values"). */
 #include "samples.h"
 #include "test.h"
 

@@ -1,4 +1,4 @@
-/* Steps, and reading what they yield. */
+/* Steps, and reading what they yield (document 01, "Admission and one step" and "Values"). */
 #include "samples.h"
 #include "test.h"
 
@@ -65,22 +65,40 @@ static void every_element(void) {
     EXPECT_NO_ELEMENT(fringewell_step(every_type, sizeof every_type, next, ended), 0, 0, 220);
 }
 
+static void is_value(fringewell_value value, int i) {
+    EXPECT_EQUAL(value.number, 0);
+    EXPECT_EQUAL(value.place, 0);
+    EXPECT_EQUAL(value.tag, elements[i].tag);
+    EXPECT_EQUAL(value.bits, elements[i].bits);
+    EXPECT_EQUAL(value.offset, elements[i].offset1);
+    EXPECT_EQUAL(value.size, elements[i].size1);
+    EXPECT_EQUAL(value.offset2, elements[i].offset2);
+    EXPECT_EQUAL(value.size2, elements[i].size2);
+}
+
 static void every_value(void) {
     for (int i = 0; i < 21; i++) {
-        fringewell_value value = fringewell_read(every_type, sizeof every_type, elements[i].place);
-        EXPECT_EQUAL(value.number, 0);
-        EXPECT_EQUAL(value.place, 0);
-        EXPECT_EQUAL(value.tag, elements[i].tag);
-        EXPECT_EQUAL(value.bits, elements[i].bits);
-        EXPECT_EQUAL(value.offset, elements[i].offset1);
-        EXPECT_EQUAL(value.size, elements[i].size1);
-        EXPECT_EQUAL(value.offset2, elements[i].offset2);
-        EXPECT_EQUAL(value.size2, elements[i].size2);
+        is_value(fringewell_read(every_type, sizeof every_type, elements[i].place), i);
     }
     EXPECT(fringewell_bits_double(fringewell_read(every_type, sizeof every_type, 4).bits) == -2.5);
     EXPECT_EQUAL(fringewell_double_bits(-2.5), 0xC004000000000000);
     EXPECT((int64_t)fringewell_read(every_type, sizeof every_type, 84).bits == -1000);
     EXPECT((int32_t)fringewell_read(every_type, sizeof every_type, 166).bits == -7);
+}
+
+#define VALUE_OF(place, tag, offset, size) fringewell_value_of(every_type, sizeof every_type, (place), (tag), (offset), (size))
+
+/* By the numbers of its step, and of its lookup, each element reads as at its place. */
+static void read_once(void) {
+    uint64_t next = 4;
+    for (int i = 0; i < 21; i++) {
+        fringewell_stepped stepped = fringewell_step(every_type, sizeof every_type, next, false);
+        is_value(VALUE_OF(stepped.place, stepped.tag, stepped.offset, stepped.size), i);
+        const uint8_t key = (uint8_t)('a' + i);
+        fringewell_found found = fringewell_lookup(every_type, sizeof every_type, &key, 1);
+        is_value(VALUE_OF(found.place, found.tag, found.offset, found.size), i);
+        next = stepped.next;
+    }
 }
 
 /* The largest int32 is not sign-extended to a negative; false is 0; subtype 2 gives what lies behind its inner length. */
@@ -132,6 +150,66 @@ static void unread(void) {
                   4);
 }
 
+/* Elements as a step gives them: refused at their place, as in reading there. */
+static void unread_once(void) {
+    EXPECT_UNREAD(fringewell_value_of(BYTES(8, 0, 0, 0, 0x08, 0, 2, 0), 4, FRINGEWELL_TAG_BOOL, 6, 1), FRINGEWELL_BAD_BOOLEAN, 4);
+    EXPECT_UNREAD(fringewell_value_of(BYTES(13, 0, 0, 0, 0x02, 0, 2, 0, 0, 0, 0xFF, 0, 0), 4, FRINGEWELL_TAG_STRING, 6, 6),
+                  FRINGEWELL_NOT_UTF8, 4);
+    EXPECT_UNREAD(fringewell_value_of(BYTES(15, 0, 0, 0, 0x05, 0, 3, 0, 0, 0, 2, 0, 0, 0, 0), 4, FRINGEWELL_TAG_BINARY, 6, 8),
+                  FRINGEWELL_BAD_SHAPE, 4);
+}
+
+/* A code with scope of n bytes, its code and its scope behind its length, in a slice of its own. */
+#define SCOPE_OF(n, ...) \
+    fringewell_value_of(BYTES(n, 0, 0, 0, __VA_ARGS__), 1000, FRINGEWELL_TAG_CODE_WITH_SCOPE, 0, n)
+
+/* All of its refusals, in their order. */
+static void scopes(void) {
+    EXPECT_UNREAD(SCOPE_OF(13, 1, 0, 0, 0, 0, 4, 0, 0, 0), FRINGEWELL_BAD_SHAPE, 1000);
+    EXPECT_UNREAD(SCOPE_OF(14, 0, 0, 0, 0, 0, 5, 0, 0, 0, 0), FRINGEWELL_BAD_LENGTH, 1000);
+    EXPECT_UNREAD(SCOPE_OF(14, 7, 0, 0, 0, 0, 5, 0, 0, 0, 0), FRINGEWELL_PAST_THE_SLICE, 1000);
+    EXPECT_UNREAD(SCOPE_OF(14, 1, 0, 0, 0, 1, 5, 0, 0, 0, 0), FRINGEWELL_NOT_ENDED, 1000);
+    EXPECT_UNREAD(SCOPE_OF(15, 2, 0, 0, 0, 0xFF, 0, 5, 0, 0, 0, 0), FRINGEWELL_NOT_UTF8, 1000);
+    EXPECT_UNREAD(SCOPE_OF(14, 6, 0, 0, 0, 1, 5, 0, 0, 0, 0), FRINGEWELL_BAD_SHAPE, 1000); /* no byte is left for a scope */
+    EXPECT_UNREAD(SCOPE_OF(14, 2, 0, 0, 0, 1, 0, 5, 0, 0, 0), FRINGEWELL_TOO_SHORT, 1000);
+    EXPECT_UNREAD(SCOPE_OF(14, 1, 0, 0, 0, 0, 6, 0, 0, 0, 0), FRINGEWELL_LENGTH_DIFFERS, 1000);
+    EXPECT_UNREAD(SCOPE_OF(14, 1, 0, 0, 0, 0, 5, 0, 0, 0, 1), FRINGEWELL_NO_TERMINATOR, 1000);
+}
+
+/* Any numbers get an answer: 9 where the value runs past the slice, and no sum wraps; then 7; then what its bytes hold. */
+static void own_numbers(void) {
+    static const size_t far[] = {222, INT32_MAX, UINT32_MAX, PTRDIFF_MAX, SIZE_MAX - 220, SIZE_MAX};
+    for (size_t i = 0; i < sizeof far / sizeof *far; i++) {
+        EXPECT_UNREAD(VALUE_OF(far[i], FRINGEWELL_TAG_NULL, far[i], 0), FRINGEWELL_PAST_THE_SLICE, far[i]);
+        EXPECT_UNREAD(VALUE_OF(4, FRINGEWELL_TAG_STRING, 0, far[i]), FRINGEWELL_PAST_THE_SLICE, 4);
+        EXPECT_UNREAD(VALUE_OF(4, 0x14, 221, far[i]), FRINGEWELL_PAST_THE_SLICE, 4);
+    }
+    EXPECT_UNREAD(VALUE_OF(9, 0x14, 4, 1), FRINGEWELL_UNKNOWN_TAG, 9);
+    EXPECT_UNREAD(VALUE_OF(9, 0x00, 221, 0), FRINGEWELL_UNKNOWN_TAG, 9);
+    EXPECT_UNREAD(VALUE_OF(9, FRINGEWELL_TAG_INT32, 169, 3), FRINGEWELL_PAST_THE_SLICE, 9);
+    EXPECT_UNREAD(VALUE_OF(98, FRINGEWELL_TAG_REGEX, 101, 2), FRINGEWELL_NO_ZERO, 98);
+    EXPECT_UNREAD(VALUE_OF(98, FRINGEWELL_TAG_REGEX, 101, 4), FRINGEWELL_NO_ZERO, 98);
+    EXPECT_EQUAL(fringewell_value_of(NOTHING, 9, FRINGEWELL_TAG_NULL, 0, 0).tag, FRINGEWELL_TAG_NULL); /* nothing is admitted */
+    EXPECT_EQUAL(fringewell_value_of(BYTES(1), 9, FRINGEWELL_TAG_BOOL, 0, 1).bits, 1);
+}
+
+/* Parts have what the numbers leave: ObjectIds of another size, and texts that begin behind the slice but are empty. */
+static void own_parts(void) {
+    fringewell_value id = VALUE_OF(65, FRINGEWELL_TAG_OBJECT_ID, 68, 3);
+    EXPECT_EQUAL(id.offset, 68);
+    EXPECT_EQUAL(id.size, 3);
+    fringewell_value pointer = VALUE_OF(106, FRINGEWELL_TAG_DBPOINTER, 217, 4);
+    EXPECT_EQUAL(pointer.number, 0);
+    EXPECT_EQUAL(pointer.offset, 221);
+    EXPECT_EQUAL(pointer.size, 0);
+    EXPECT_EQUAL(pointer.offset2, 217);
+    EXPECT_EQUAL(pointer.size2, 4);
+    fringewell_value text = VALUE_OF(15, FRINGEWELL_TAG_STRING, 221, 0);
+    EXPECT_EQUAL(text.tag, FRINGEWELL_TAG_STRING);
+    EXPECT_EQUAL(text.offset, 225);
+    EXPECT_EQUAL(text.size, 0);
+}
+
 /* P5 yields its int32 and then begins past the terminator; P6 is framed and ends cleanly; P11 yields its null first. */
 static void last_values(void) {
     static const uint8_t p5[10] = {10, 0, 0, 0, 0x10, 0, 7, 0, 0, 0}, p6[10] = {10, 0, 0, 0, 0x0F, 0, 3, 0, 0, 0};
@@ -168,8 +246,13 @@ static void cursors(void) {
 int main(void) {
     every_element();
     every_value();
+    read_once();
     other_values();
     unread();
+    unread_once();
+    scopes();
+    own_numbers();
+    own_parts();
     last_values();
     cursors();
     return held();

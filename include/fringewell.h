@@ -28,9 +28,9 @@
 extern "C" {
 #endif
 
-#define FRINGEWELL_VERSION "0.7.0"
+#define FRINGEWELL_VERSION "0.8.0"
 #define FRINGEWELL_VERSION_MAJOR 0
-#define FRINGEWELL_VERSION_MINOR 7
+#define FRINGEWELL_VERSION_MINOR 8
 #define FRINGEWELL_VERSION_PATCH 0
 
 #define FRINGEWELL_STACK_BYTES 98304
@@ -135,7 +135,7 @@ typedef struct {
     uint32_t words[406];
 } fringewell_writer;
 
-/* ---- Reading. Every call admits the document first: 1, 2, 3, in this order. ---- */
+/* ---- Reading. Every call but fringewell_value_of admits the document first: 1, 2, 3, in this order. ---- */
 
 /* The whole check: every element of every level, its value read, none deeper than 200 (top values have depth 0; inside documents and
  * arrays it is one more, inside a scope two). Refused by 1 to 13, the first met in the document's order; else `count` is the number of
@@ -164,6 +164,13 @@ fringewell_stepped fringewell_step(const uint8_t *document, size_t length, size_
 /* The value of the element whose tag byte is at this place. Refused by 16 where the place is the terminator, and by 1 to 12. Any place
  * gets an answer. */
 fringewell_value fringewell_read(const uint8_t *document, size_t length, size_t place);
+
+/* The value of an element that fringewell_step or a lookup gave of the same bytes, by its place, tag, offset and size: answered as by
+ * fringewell_read at its place, with no second step, and so refused by 6, 11, 12 and, of a code with scope, by 1 to 3 and 8 to 10 too.
+ * The document is not admitted. Any numbers get an answer, and no byte outside the document is read: 9 where the value would run past
+ * it, then 7, then what its bytes hold of this type, refused by 5 and those above; all at the place given. Of numbers that no call gave,
+ * a part may have another size than its type's, and an empty one may begin behind the document. */
+fringewell_value fringewell_value_of(const uint8_t *document, size_t length, size_t place, uint8_t tag, size_t offset, size_t size);
 
 /* ---- Joining ---- */
 

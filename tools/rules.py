@@ -173,18 +173,24 @@ WHOLE = {0x03: "document", 0x04: "array", 0x07: "objectid", 0x13: "decimal128"}
 EMPTY = {0x0A: "null", 0x06: "undefined", 0xFF: "minkey", 0x7F: "maxkey"}
 
 
-def text(v, base):
-    """A string's text within its framed bytes, without length and final zero."""
-    n = string(v)
-    unless(is_utf8(v[4 : n - 1]), 6)
-    return base + 4, n - 5
+def trimmed(v, base, front):
+    """A part without its first bytes, of which no more are taken than it has."""
+    return base + front, max(len(v) - front, 0)
+
+
+def text(v, base, back=1):
+    """A text within its framed bytes, without the length in front and what lies behind it: its final zero, and a DBPointer's ObjectId."""
+    size = max(len(v) - 4 - back, 0)
+    unless(is_utf8(v[4 : 4 + size]), 6)
+    return base + 4, size
 
 
 def binary_value(v, base):
-    if v[4] != 2:
-        return "binary", v[4], base + 5, len(v) - 5
+    subtype = v[4] if len(v) > 4 else 0  # shorter only where no step gave the element
+    if subtype != 2:
+        return "binary", subtype, *trimmed(v, base, 5)
     unless(len(v) >= 9 and signed(v[5:], 4) == len(v) - 9, 12)
-    return "binary", 2, base + 9, len(v) - 9
+    return "binary", 2, *trimmed(v, base, 9)
 
 
 def regex_value(v, base):
@@ -194,11 +200,11 @@ def regex_value(v, base):
 
 def scope_value(v, base):
     unless(len(v) >= 14, 12)
-    code = text(v[4:], base + 4)
     start = 4 + string(v[4:])
+    code = text(v[4:start], base + 4)
     unless(start < len(v), 12)
     admit(v[start:])
-    return "codewithscope", *code, base + start, len(v) - start
+    return "codewithscope", *code, *trimmed(v, base, start)
 
 
 def content(v, tag, base):
@@ -213,12 +219,19 @@ def content(v, tag, base):
     if tag == 0x11:
         return "timestamp", unsigned(v, 4), unsigned(v[4:], 4)
     if tag == 0x0C:
-        return "dbpointer", *text(v, base), base + len(v) - 12, 12
+        return "dbpointer", *text(v, base, 13), *trimmed(v, base, max(len(v) - 12, 0))
     return {0x05: binary_value, 0x0B: regex_value, 0x0F: scope_value}[tag](v, base)
 
 
+def value_in(s, tag, offset, size):
+    """The value of a tag in a part of the slice, which of an element that no step gave may run past it (docs/DECISIONS.md)."""
+    unless(offset + size <= len(s), 9)
+    unless(tag in FIXED or tag in FRAMED, 7)
+    return content(s[offset : offset + size], tag, offset)
+
+
 def value_of(s, e):
-    return at(e.place, content, s[e.offset : e.offset + e.size], e.tag, e.offset)
+    return at(e.place, value_in, s, e.tag, e.offset, e.size)
 
 
 # ---- values at a place

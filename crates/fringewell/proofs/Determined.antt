@@ -22,6 +22,8 @@ use Rattle.fringewell.proofs.fringewell_step.Reads as step-reads
 use Rattle.fringewell.proofs.fringewell_step.Kinds as step-kinds
 use Rattle.fringewell.proofs.fringewell_read.Reads as read-reads
 use Rattle.fringewell.proofs.fringewell_read.Kinds as read-kinds
+use Rattle.fringewell.proofs.fringewell_value_of.Reads as value-of-reads
+use Rattle.fringewell.proofs.fringewell_value_of.Kinds as value-of-kinds
 use Rattle.fringewell.proofs.fringewell_join.Reads as join-reads
 use Rattle.fringewell.proofs.fringewell_join.Kinds as join-kinds
 use Rattle.fringewell.proofs.fringewell_writer_new.Reads as writer-new-reads
@@ -95,6 +97,9 @@ fringewell-step-determined κs a r₁ r₂ s₁ s₂ p q = p ∙ sym q
 
 pub fringewell-read-determined : (κs : Lfts 1) (a : Dens κs read-kinds.ps) → Determined (read-reads.Post κs a)
 fringewell-read-determined κs a r₁ r₂ s₁ s₂ p q = p ∙ sym q
+
+pub fringewell-value-of-determined : (κs : Lfts 1) (a : Dens κs value-of-kinds.ps) → Determined (value-of-reads.Post κs a)
+fringewell-value-of-determined κs a r₁ r₂ s₁ s₂ p q = p ∙ sym q
 
 pub fringewell-join-determined : (κs : Lfts 3) (a : Dens κs join-kinds.ps) → DeterminedBuf (λ s. now (s .1 .1 .0)) (join-reads.Post κs a)
 fringewell-join-determined κs a r₁ r₂ s₁ s₂ p q = both r₁ r₂ (now (s₁ .1 .1 .0)) (now (s₂ .1 .1 .0)) p q

@@ -1,3 +1,4 @@
 pub mod Through
 pub mod NoWeaker
+pub mod ReadOnce
 pub mod Determined

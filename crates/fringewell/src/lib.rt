@@ -9,14 +9,17 @@ ghost use Rattle.bson.specs.Step.{cursor};
 ghost use Rattle.bson.specs.Value as value;
 ghost use Rattle.bson.specs.Writer as writer;
 ghost use Rattle.numbers.specs.Numbers.{verdict, emptiness, found, valueRead};
+ghost use Rattle.fringewell.specs.Given.{given};
 ghost use Rattle.fringewell.specs.Left.{steps, left, joins, leaves, performs};
 use iter::Cursor;
+use iter::Element;
 use numbers::FoundNumbers;
 use numbers::JoinedNumbers;
 use numbers::StepNumbers;
 use numbers::ValueNumbers;
 use numbers::VerdictNumbers;
 use numbers::WrittenNumbers;
+use part::Part;
 
 // The plain check.
 #[no_mangle]
@@ -72,6 +75,26 @@ pub extern "C" fn fringewell_read(document: &[u8], place: usize) -> ValueNumbers
     ensures { λ r. ⌜ r ≡ valueRead (value.readAt (now (document .entry)) place) ⌝ }
 {
     numbers::of_reading(reading::read_at(document, place))
+}
+
+// The value of an element that a step gave, by its place, its tag and where its framed value lies: no second step.
+#[no_mangle]
+pub extern "C" fn fringewell_value_of(
+    document: &[u8],
+    place: usize,
+    tag: u8,
+    offset: usize,
+    size: usize,
+) -> ValueNumbers
+    ensures { λ r. ⌜ r ≡ valueRead (value.valueOf (now (document .entry)) (given place tag offset size)) ⌝ }
+{
+    let element = Element {
+        place,
+        tag,
+        key: Part { offset: 0, size: 0 },
+        value: Part { offset, size },
+    };
+    numbers::of_reading(reading::value_of(document, element))
 }
 
 // Both documents as one, at the front of a lent buffer.
