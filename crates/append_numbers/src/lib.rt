@@ -19,9 +19,15 @@ fn append_words(
     ensures { λ r. ⌜ writer.written r (now (words .exit)) (now (out .exit))
         ≡ appending (now (words .entry)) (now (out .entry)) 0 tag (now (key .entry)) true (grammar.bytes32 first ++ grammar.bytes32 second) ⌝ }
 {
-    let p = encode::bytes32(first);
-    let q = encode::bytes32(second);
-    appending::append(out, words, 0, tag, key, true, &p, &q, b"", b"")
+    let n = appending::head(out, words, 0, tag, key, true, 8);
+    if n == 0 {
+        let at = writer_state::used(words) - 8;
+        let p = encode::bytes32(first);
+        let q = encode::bytes32(second);
+        let v = [p[0], p[1], p[2], p[3], q[0], q[1], q[2], q[3]];
+        output::put_text(out, at, &v);
+    }
+    n
 }
 
 // Appends a number of eight bytes.
@@ -37,7 +43,7 @@ fn append_nothing(out: &mut [u8], words: &mut [u32; 406], tag: u8, key: &[u8]) -
     ensures { λ r. ⌜ writer.written r (now (words .exit)) (now (out .exit))
         ≡ appending (now (words .entry)) (now (out .entry)) 0 tag (now (key .entry)) true [] ⌝ }
 {
-    appending::append(out, words, 0, tag, key, true, b"", b"", b"", b"")
+    appending::head(out, words, 0, tag, key, true, 0)
 }
 
 // Appends a double by its bits.
@@ -53,9 +59,14 @@ pub fn append_bool(out: &mut [u8], words: &mut [u32; 406], key: &[u8], b: bool) 
     ensures { λ r. ⌜ writer.written r (now (words .exit)) (now (out .exit))
         ≡ writer.performed (writer.append (now (key .entry)) (value.boolean b)) (now (words .entry)) (now (out .entry)) ⌝ }
 {
-    let byte = b as u8;
-    let v = [byte];
-    appending::append(out, words, 0, 0x08, key, true, &v, b"", b"", b"")
+    let r = appending::head(out, words, 0, 0x08, key, true, 1);
+    if r == 0 {
+        let at = writer_state::used(words) - 1;
+        let byte = b as u8;
+        let v = [byte];
+        output::put_text(out, at, &v);
+    }
+    r
 }
 
 // Appends an int32.
@@ -63,8 +74,12 @@ pub fn append_int32(out: &mut [u8], words: &mut [u32; 406], key: &[u8], n: i32) 
     ensures { λ r. ⌜ writer.written r (now (words .exit)) (now (out .exit))
         ≡ writer.performed (writer.append (now (key .entry)) (value.int32 n)) (now (words .entry)) (now (out .entry)) ⌝ }
 {
-    let v = encode::bytes32(encode::bits32(n) as usize);
-    appending::append(out, words, 0, 0x10, key, true, &v, b"", b"", b"")
+    let r = appending::head(out, words, 0, 0x10, key, true, 4);
+    if r == 0 {
+        let at = writer_state::used(words) - 4;
+        encode::put_bytes32(out, at, encode::bits32(n) as usize);
+    }
+    r
 }
 
 // Appends an int64.

@@ -1,28 +1,28 @@
 // Texts, binary data and ids, appended to lent state (document 01, "Writer and joining").
 ghost use mathlib.Core.Path.{_≡_};
-ghost use mathlib.Core.List.{_++_};
 ghost use Rattle.bson.specs.Grammar as grammar;
 ghost use Rattle.bson.specs.Utf8.{utf8};
 ghost use Rattle.bson.specs.Value as value;
 ghost use Rattle.bson.specs.Writer as writer;
 ghost use Rattle.appending.specs.Refusal.{appending};
 
-// Appends a text, with its length and its zero, and what comes behind it.
-fn append_text(
-    out: &mut [u8],
-    words: &mut [u32; 406],
-    tag: u8,
-    key: &[u8],
-    text: &[u8],
-    behind: &[u8],
-) -> u8
+// Appends a text, with its length and its zero.
+fn append_text(out: &mut [u8], words: &mut [u32; 406], tag: u8, key: &[u8], text: &[u8]) -> u8
     ensures { λ r. ⌜ writer.written r (now (words .exit)) (now (out .exit))
         ≡ appending (now (words .entry)) (now (out .entry)) 0 tag (now (key .entry)) (utf8 (now (text .entry)))
-        (grammar.stringBytes (now (text .entry)) ++ now (behind .entry)) ⌝ }
+        (grammar.stringBytes (now (text .entry))) ⌝ }
 {
     let good = utf8::is_utf8(text);
-    let size = encode::bytes32(text.len() + 1);
-    appending::append(out, words, 0, tag, key, good, &size, text, b"\0", behind)
+    let size = text.len() + 5;
+    // the key anew: a slice handed on as it came is copied in one piece, right after it was stored in two
+    let n = appending::head(out, words, 0, tag, &key[0..], good, size);
+    if n == 0 {
+        let at = writer_state::used(words) - size;
+        let a = encode::put_bytes32(out, at, text.len() + 1);
+        let b = output::put_text(out, a, text);
+        output::put_text(out, b, b"\0");
+    }
+    n
 }
 
 // Appends a string.
@@ -30,7 +30,7 @@ pub fn append_string(out: &mut [u8], words: &mut [u32; 406], key: &[u8], text: &
     ensures { λ r. ⌜ writer.written r (now (words .exit)) (now (out .exit))
         ≡ writer.performed (writer.append (now (key .entry)) (value.string (now (text .entry)))) (now (words .entry)) (now (out .entry)) ⌝ }
 {
-    append_text(out, words, 0x02, key, text, b"")
+    append_text(out, words, 0x02, key, text)
 }
 
 // Appends JavaScript code.
@@ -38,7 +38,7 @@ pub fn append_code(out: &mut [u8], words: &mut [u32; 406], key: &[u8], text: &[u
     ensures { λ r. ⌜ writer.written r (now (words .exit)) (now (out .exit))
         ≡ writer.performed (writer.append (now (key .entry)) (value.code (now (text .entry)))) (now (words .entry)) (now (out .entry)) ⌝ }
 {
-    append_text(out, words, 0x0D, key, text, b"")
+    append_text(out, words, 0x0D, key, text)
 }
 
 // Appends a symbol.
@@ -46,7 +46,7 @@ pub fn append_symbol(out: &mut [u8], words: &mut [u32; 406], key: &[u8], text: &
     ensures { λ r. ⌜ writer.written r (now (words .exit)) (now (out .exit))
         ≡ writer.performed (writer.append (now (key .entry)) (value.symbol (now (text .entry)))) (now (words .entry)) (now (out .entry)) ⌝ }
 {
-    append_text(out, words, 0x0E, key, text, b"")
+    append_text(out, words, 0x0E, key, text)
 }
 
 // Appends a DBPointer: a namespace and an id.
@@ -61,7 +61,9 @@ pub fn append_dbpointer(
         ≡ writer.performed (writer.append (now (key .entry)) (value.dbPointer (now (namespace .entry)) (now (id .entry))))
         (now (words .entry)) (now (out .entry)) ⌝ }
 {
-    append_text(out, words, 0x0C, key, namespace, id)
+    let good = utf8::is_utf8(namespace);
+    let size = encode::bytes32(namespace.len() + 1);
+    appending::append(out, words, 0, 0x0C, key, good, &size, namespace, b"\0", id)
 }
 
 // Appends binary data; under subtype 2 with its inner length.

@@ -1,21 +1,22 @@
--- An element that the tests let pass, and what its runs leave in the buffer, as the code meets them (document 01, "Writer and joining").
+-- The head of an element that the tests let pass, and what it leaves in the buffer, as the code meets them (document 01, "Writer and joining").
 -- Assumes nothing.
 use Prim.Native.Nat.{ℕ, _+_, _-_, _≤_, _<_, _^_}
 use mathlib.Core.Path.{_≡_, refl, sym, ap, _∙_}
-use mathlib.Core.List.{List, [], _∷_, _++_, append-nil}
+use mathlib.Core.List.{List, [], _∷_}
 use mathlib.Core.Bool.{Bool, true, false, cond, _&&_}
 use native.Mathlib.Omega.{arith}
 use lib.Dec.{leb, eqb}
-use lib.ListN.{length, length-append}
+use lib.ListN.{length}
 use borrow.Author.Tests.{leb-true, le-leb, eq-eqb, ne-eqb}
 use Rattle.bson.specs.Answer.{Answer, gives, refuses, unless}
 use Rattle.bson.specs.Grammar.{elementBytes}
 use Rattle.bson.specs.Output.{Output, output, put, putTexts, joined}
-use Rattle.bson.specs.Writer.{State, used, depth, Kind, inDocument, inArray, nextDepth, keyIn, keyPasses, innermost, kindHolds, grown, Desk, desk, room, appended, written}
+use Rattle.bson.specs.Writer.{State, used, depth, Kind, inDocument, inArray, nextDepth, keyIn, keyPasses, innermost, kindHolds, grown, Desk, desk, room, written}
 use Rattle.laws.proofs.GrammarLaws.{length-element}
 use Rattle.laws.proofs.OutputLaws.{texts-fit}
-use Rattle.laws.proofs.WriterLaws.{room-within, innermost-says, Sizes, sizes, taken}
-use Rattle.appending.specs.Refusal.{refusalOf, appending}
+use Rattle.laws.proofs.WriterLaws.{room-within, innermost-says, Sizes, sizes}
+use Rattle.appending.specs.Refusal.{refusalOf}
+use Rattle.appending.specs.Heading.{headed, heading}
 
 -- an answer by its number
 abbrev byNumber : ℕ → Desk → Answer Desk
@@ -34,13 +35,13 @@ let-pass true false c e = absurd (omega arith)
 let-pass true true false e = absurd (omega arith)
 let-pass true true true e = refl
 
--- the runs of an element are its bytes
-abbrev pub runs : ℕ → List ℕ → List ℕ → List ℕ → List ℕ → List ℕ → List (List ℕ)
-runs tag key p q r s = (tag ∷ []) ∷ key ∷ (0 ∷ []) ∷ p ∷ q ∷ r ∷ s ∷ []
+-- the texts of a head are its bytes
+abbrev pub texts : ℕ → List ℕ → List (List ℕ)
+texts tag key = (tag ∷ []) ∷ key ∷ (0 ∷ []) ∷ []
 
-runs-joined : (tag : ℕ) (key p q r s : List ℕ) → joined (runs tag key p q r s) ≡ elementBytes tag key (p ++ (q ++ (r ++ s)))
+texts-joined : (tag : ℕ) (key : List ℕ) → joined (texts tag key) ≡ elementBytes tag key []
 unfolding elementBytes
-runs-joined tag key p q r s = ap (λ (l : List ℕ). tag ∷ (key ++ (0 ∷ (p ++ (q ++ (r ++ l)))))) (append-nil s)
+texts-joined tag key = refl
 
 still-holds : (kind : Kind) (n : ℕ) → n ≤ 2147483647 → kindHolds n kind ≡ true → kindHolds 2147483647 kind ≡ true
 unfolding kindHolds
@@ -62,9 +63,12 @@ module _ (w : State) (buffer : List ℕ) (m : ℕ) (kind : Kind) (em : m ≡ roo
   few = (known .most, still-holds kind (used w) (omega (arith, known .small)) (known .counted))
 
 module _ (w : State) (buffer : List ℕ) (m : ℕ) (kind : Kind) (em : m ≡ room (length buffer)) (ei : innermost w m ≡ gives kind)
-    (more tag : ℕ) (key : List ℕ) (good : Bool) (p q r s : List ℕ) where
-  new : List ℕ
-  new = elementBytes tag (keyIn kind key) (p ++ (q ++ (r ++ s)))
+    (more tag : ℕ) (key : List ℕ) (good : Bool) (size : ℕ) where
+  front : List ℕ
+  front = elementBytes tag (keyIn kind key) []
+
+  whole : ℕ
+  whole = 2 + length (keyIn kind key) + size
 
   low : Bool
   low = leb (nextDepth w) 200
@@ -73,51 +77,59 @@ module _ (w : State) (buffer : List ℕ) (m : ℕ) (kind : Kind) (em : m ≡ roo
   in-order = keyPasses kind key && good
 
   fitting : Bool
-  fitting = leb (used w + length new + (depth w + more)) (room (length buffer))
+  fitting = leb (used w + whole + (depth w + more)) (room (length buffer))
 
-  module _ (n : ℕ) (en : n ≡ refusalOf w m kind more key good (length p + (length q + (length r + length s)))) where
+  after : Desk
+  after = desk (grown kind w whole) (put buffer (used w) front)
+
+  module _ (n : ℕ) (en : n ≡ refusalOf w m kind more key good size) where
     number-is : n ≡ cond low (cond in-order (cond fitting 0 14) 15) 13
-    unfolding refusalOf low in-order fitting new
-    number-is =
-        let k : length (p ++ (q ++ (r ++ s))) ≡ length p + (length q + (length r + length s)) = simp (length-append) in
-        en ∙ rw (length-element tag (keyIn kind key) (p ++ (q ++ (r ++ s))), k, em)
+    unfolding refusalOf low in-order fitting whole
+    number-is = en ∙ rw em
 
-    by-refusal : appended (desk w buffer) more tag key good (p ++ (q ++ (r ++ s))) ≡ byNumber n (taken (desk w buffer) kind new)
-    unfolding appended low in-order fitting new
-    by-refusal = rw (inner w buffer m kind em ei, number-is) (cascade low in-order fitting (taken (desk w buffer) kind new))
+    by-refusal : headed (desk w buffer) more tag key good size ≡ byNumber n after
+    unfolding headed low in-order fitting whole front after
+    by-refusal = rw (inner w buffer m kind em ei, number-is) (cascade low in-order fitting after)
 
-    pub refused : (n ≡ 0 → ⊥) → written n w buffer ≡ appending w buffer more tag key good (p ++ (q ++ (r ++ s)))
-    unfolding appending
+    pub refused : (n ≡ 0 → ⊥) → written n w buffer ≡ heading w buffer more tag key good size
+    unfolding heading
     refused h = rw (by-refusal, ne-eqb n 0 h)
 
     module _ (e : n ≡ 0) (at : ℕ) (ea : at ≡ used w) (exit : List ℕ) (end : ℕ)
-        (eo : output exit end ≡ putTexts (output buffer at) (runs tag (keyIn kind key) p q r s)) where
-      new-fits : used w + length new + (depth w + more) ≤ room (length buffer)
+        (eo : output exit end ≡ putTexts (output buffer at) (texts tag (keyIn kind key))) where
+      whole-fits : used w + whole + (depth w + more) ≤ room (length buffer)
       unfolding fitting
-      new-fits = leb-true _ _ (let-pass low in-order fitting (sym e ∙ number-is))
+      whole-fits = leb-true _ _ (let-pass low in-order fitting (sym e ∙ number-is))
 
-      put-whole : output exit end ≡ output (put buffer (used w) new) (used w + length new)
-      unfolding new
-      put-whole =
-          let f = new-fits in
+      front-length : length front ≡ 2 + length (keyIn kind key)
+      unfolding front
+      front-length = omega (arith, length-element tag (keyIn kind key) [])
+
+      front-put : output exit end ≡ output (put buffer (used w) front) (used w + length front)
+      unfolding front whole
+      front-put =
+          let f = whole-fits in
           let l = room-within (length buffer) .0 in
-          let j = runs-joined tag (keyIn kind key) p q r s in
-          let k : length (joined (runs tag (keyIn kind key) p q r s)) ≡ length new = ap length j in
+          let j = texts-joined tag (keyIn kind key) in
+          let k : length (joined (texts tag (keyIn kind key))) ≡ length front = ap length j in
           eo
-          ∙ texts-fit (output buffer at) (runs tag (keyIn kind key) p q r s) (omega (arith, k, ea))
+          ∙ texts-fit (output buffer at) (texts tag (keyIn kind key)) (omega (arith, k, ea, front-length))
           ∙ ap (λ (t : List ℕ). output (put buffer at t) (at + length t)) j
-          ∙ ap (λ (a : ℕ). output (put buffer a new) (a + length new)) ea
+          ∙ ap (λ (a : ℕ). output (put buffer a front) (a + length front)) ea
 
-      end-is : end ≡ used w + length new
-      end-is = ap (λ (o : Output). o .used) put-whole
+      grown-by : end - at + size ≡ whole
+      unfolding whole
+      grown-by = let i : end ≡ used w + length front = ap (λ (o : Output). o .used) front-put in omega (arith, front-length)
 
       -- the used bytes grow, and stay a word
-      pub grows : (at ≤ end) × (used w + (end - at) < 2 ^ 32)
-      grows = let l = room-within (length buffer) .1 in (omega (arith, end-is), omega (arith, end-is, new-fits))
+      pub grows : (at ≤ end) × (used w + (end - at + size) < 2 ^ 32)
+      grows =
+          let i : end ≡ used w + length front = ap (λ (o : Output). o .used) front-put in
+          let l = room-within (length buffer) .1 in
+          (omega arith, omega (arith, grown-by, whole-fits))
 
-      pub done : (v : State) → v ≡ grown kind w (end - at) → written n v exit ≡ appending w buffer more tag key good (p ++ (q ++ (r ++ s)))
-      unfolding appending
+      pub done : (v : State) → v ≡ grown kind w (end - at + size) → written n v exit ≡ heading w buffer more tag key good size
+      unfolding heading after
       done v ev =
-          let b : exit ≡ put buffer (used w) new = ap (λ (o : Output). o .buffer) put-whole in
-          let m : end - at ≡ length new = omega (arith, end-is) in
-          rw (by-refusal, eq-eqb n 0 e, e, ev, m, b)
+          let b : exit ≡ put buffer (used w) front = ap (λ (o : Output). o .buffer) front-put in
+          rw (by-refusal, eq-eqb n 0 e, e, ev, grown-by, b)

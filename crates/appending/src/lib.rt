@@ -1,15 +1,15 @@
-// An element behind the used bytes, tested in the order 18, 13, 15, 14 (document 01, "Writer and joining").
+// An element behind the used bytes: its head, then its value; tested in the order 18, 13, 15, 14 (document 01, "Writer and joining").
 ghost use mathlib.Core.Path.{_≡_};
 ghost use mathlib.Core.Bool.{true};
 ghost use mathlib.Core.List.{[], _∷_, _++_};
 ghost use Prim.Native.Nat.{_+_, _-_, _≤_, _<_, _^_};
-ghost use lib.Dec.{leb};
 ghost use lib.ListN.{length};
 ghost use Rattle.bson.specs.Answer.{gives};
 ghost use Rattle.bson.specs.Output as paper;
 ghost use Rattle.bson.specs.Writer as writer;
 ghost use Rattle.writer_state.specs.Said.{saidKind};
 ghost use Rattle.appending.specs.Refusal.{refusalOf, appending};
+ghost use Rattle.appending.specs.Heading.{heading, bounded};
 use writer_state::Kind;
 use writer_state::Told;
 
@@ -44,49 +44,15 @@ fn put_key(out: &mut [u8], at: usize, kind: Kind, key: &[u8]) -> usize
     }
 }
 
-// Puts an element: its tag, its key, a zero, and its value in four runs.
-fn put_element(
-    out: &mut [u8],
-    at: usize,
-    tag: u8,
-    kind: Kind,
-    key: &[u8],
-    p: &[u8],
-    q: &[u8],
-    r: &[u8],
-    s: &[u8],
-) -> usize
+// Puts the head of an element: its tag, its key and a zero.
+fn put_head(out: &mut [u8], at: usize, tag: u8, kind: Kind, key: &[u8]) -> usize
     ensures { λ n. ⌜ paper.output (now (out .exit)) n ≡ paper.putTexts (paper.output (now (out .entry)) at)
-        ((tag ∷ []) ∷ writer.keyIn (saidKind kind) (now (key .entry)) ∷ (0 ∷ [])
-        ∷ now (p .entry) ∷ now (q .entry) ∷ now (r .entry) ∷ now (s .entry) ∷ []) ⌝ }
+        ((tag ∷ []) ∷ writer.keyIn (saidKind kind) (now (key .entry)) ∷ (0 ∷ []) ∷ []) ⌝ }
 {
     let first = [tag];
     let a = output::put_text(out, at, &first);
     let b = put_key(out, a, kind, key);
-    let c = output::put_text(out, b, b"\0");
-    let d = output::put_text(out, c, p);
-    let e = output::put_text(out, d, q);
-    let f = output::put_text(out, e, r);
-    output::put_text(out, f, s)
-}
-
-// Whether so many bytes, and four runs, fit what is left.
-fn fit(left: usize, head: usize, p: usize, q: usize, r: usize, s: usize) -> bool
-    ensures { λ b. ⌜ b ≡ leb (head + (p + (q + (r + s)))) left ⌝ }
-{
-    if left < head {
-        return false;
-    }
-    if left - head < p {
-        return false;
-    }
-    if left - head - p < q {
-        return false;
-    }
-    if left - head - p - q < r {
-        return false;
-    }
-    s <= left - head - p - q - r
+    output::put_text(out, b, b"\0")
 }
 
 // One element more, of so many bytes.
@@ -110,7 +76,7 @@ fn next_depth(words: &[u32; 406]) -> usize
     writer_state::depth(words) - 1
 }
 
-// The refusal of an element in the innermost, of this kind, or 0.
+// The refusal of an element in the innermost, of this kind, with a value of so many bytes, or 0.
 fn refusal(
     words: &[u32; 406],
     room: usize,
@@ -118,20 +84,17 @@ fn refusal(
     more: u8,
     key: &[u8],
     good: bool,
-    p: usize,
-    q: usize,
-    r: usize,
-    s: usize,
+    size: usize,
 ) -> u8
     requires { ⌜ (0 < writer.depth (now words)) × (writer.used (now words) + writer.depth (now words) ≤ room) ⌝ }
-    ensures { λ n. ⌜ n ≡ refusalOf (now (words .entry)) room (saidKind kind) more (now (key .entry)) good (p + (q + (r + s))) ⌝ }
+    ensures { λ n. ⌜ n ≡ refusalOf (now (words .entry)) room (saidKind kind) more (now (key .entry)) good size ⌝ }
 {
     if 200 < next_depth(words) {
         return 13;
     }
     if key_passes(kind, key) & good {
         let left = room - (writer_state::used(words) + writer_state::depth(words));
-        if fit(left, 2 + key_size(kind, key) + more as usize, p, q, r, s) {
+        if output::fits(left, 2 + key_size(kind, key) + more as usize, size) {
             return 0;
         }
         return 14;
@@ -139,8 +102,8 @@ fn refusal(
     15
 }
 
-// Appends to the innermost, of this kind.
-fn append_in(
+// Puts a head in the innermost, of this kind.
+fn head_in(
     out: &mut [u8],
     words: &mut [u32; 406],
     room: usize,
@@ -149,34 +112,74 @@ fn append_in(
     tag: u8,
     key: &[u8],
     good: bool,
-    p: &[u8],
-    q: &[u8],
-    r: &[u8],
-    s: &[u8],
+    size: usize,
 ) -> u8
     requires { ⌜ (room ≡ writer.room (length (now out))) × (writer.innermost (now words) room ≡ gives (saidKind kind)) ⌝ }
     ensures { λ n. ⌜ writer.written n (now (words .exit)) (now (out .exit))
-        ≡ appending (now (words .entry)) (now (out .entry)) more tag (now (key .entry)) good
-        (now (p .entry) ++ (now (q .entry) ++ (now (r .entry) ++ now (s .entry)))) ⌝ }
+        ≡ heading (now (words .entry)) (now (out .entry)) more tag (now (key .entry)) good size ⌝ }
 {
-    let n = refusal(
-        words,
-        room,
-        kind,
-        more,
-        key,
-        good,
-        p.len(),
-        q.len(),
-        r.len(),
-        s.len(),
-    );
+    let n = refusal(words, room, kind, more, key, good, size);
     if n == 0 {
         let at = writer_state::used(words);
-        let end = put_element(out, at, tag, kind, key, p, q, r, s);
-        grow(words, kind, end - at);
+        let end = put_head(out, at, tag, kind, key);
+        grow(words, kind, end - at + size);
     }
     n
+}
+
+// Puts the head of an element, whose value of so many bytes is then to be put behind it, up to the used bytes' end; `more` documents
+// are then open besides. The number of the refusal, or 0.
+pub fn head(
+    out: &mut [u8],
+    words: &mut [u32; 406],
+    more: u8,
+    tag: u8,
+    key: &[u8],
+    good: bool,
+    size: usize,
+) -> u8
+    ensures { λ n. ⌜ writer.written n (now (words .exit)) (now (out .exit))
+        ≡ heading (now (words .entry)) (now (out .entry)) more tag (now (key .entry)) good size ⌝ }
+{
+    let room = writer_state::room_of(out.len());
+    match writer_state::innermost(words, room) {
+        Told::Is(kind) => head_in(out, words, room, kind, more, tag, key, good, size),
+        Told::Refused(n) => n,
+    }
+}
+
+// How many bytes four runs have, or one more than can ever fit.
+fn total(p: usize, q: usize, r: usize, s: usize) -> usize
+    ensures { λ n. ⌜ n ≡ bounded (p + (q + (r + s))) ⌝ }
+{
+    if 2147483647 < p {
+        return 2147483648;
+    }
+    if 2147483647 < q {
+        return 2147483648;
+    }
+    if 2147483647 < r {
+        return 2147483648;
+    }
+    if 2147483647 < s {
+        return 2147483648;
+    }
+    let n = p + (q + (r + s));
+    if 2147483647 < n {
+        return 2147483648;
+    }
+    n
+}
+
+// Puts a value in four runs.
+fn put_runs(out: &mut [u8], at: usize, p: &[u8], q: &[u8], r: &[u8], s: &[u8]) -> usize
+    ensures { λ n. ⌜ paper.output (now (out .exit)) n ≡ paper.putTexts (paper.output (now (out .entry)) at)
+        (now (p .entry) ∷ now (q .entry) ∷ now (r .entry) ∷ now (s .entry) ∷ []) ⌝ }
+{
+    let a = output::put_text(out, at, p);
+    let b = output::put_text(out, a, q);
+    let c = output::put_text(out, b, r);
+    output::put_text(out, c, s)
 }
 
 // Appends an element, its value in four runs; `more` documents are then open besides. The number of the refusal, or 0.
@@ -196,9 +199,11 @@ pub fn append(
         ≡ appending (now (words .entry)) (now (out .entry)) more tag (now (key .entry)) good
         (now (p .entry) ++ (now (q .entry) ++ (now (r .entry) ++ now (s .entry)))) ⌝ }
 {
-    let room = writer_state::room_of(out.len());
-    match writer_state::innermost(words, room) {
-        Told::Is(kind) => append_in(out, words, room, kind, more, tag, key, good, p, q, r, s),
-        Told::Refused(n) => n,
+    let size = total(p.len(), q.len(), r.len(), s.len());
+    let number = head(out, words, more, tag, key, good, size);
+    if number == 0 {
+        let at = writer_state::used(words) - size;
+        put_runs(out, at, p, q, r, s);
     }
+    number
 }

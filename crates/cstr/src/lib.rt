@@ -1,6 +1,7 @@
 // Zero-ended texts at the front of a part, and keys (src/raw.rs and src/raw/cstr.rs of the Rust).
 ghost use mathlib.Core.Path.{_≡_};
 ghost use Prim.Native.Nat.{_+_, _≤_};
+ghost use lib.Dec.{eqb, ltb};
 ghost use lib.ListN.{length, drop};
 ghost use Rattle.bson.specs.Bytes.{same};
 ghost use Rattle.bson.specs.Cstring.{firstZero, cstring, validCstr};
@@ -118,14 +119,46 @@ pub fn read_cstring(v: &[u8]) -> Length
     Length::Refused(5)
 }
 
-// Whether the bytes can be a key, a pattern or options: UTF-8 and no zero byte.
-pub fn is_valid_cstr(k: &[u8]) -> bool
+// Whether one of four bytes stops. With `|` all tests lead to one branch.
+fn stops_in_four(v: &[u8], offset: usize) -> bool
+    requires { ⌜ offset + 4 ≤ length (now v) ⌝ }
+    ensures { λ r. ⌜ r ≡ ltb (plain (drop offset (now (v .entry)))) 4 ⌝ }
+{
+    (stops(v[offset]) | stops(v[offset + 1])) | (stops(v[offset + 2]) | stops(v[offset + 3]))
+}
+
+// Whether no byte stops, four a turn.
+fn is_plain(k: &[u8]) -> bool
+    ensures { λ r. ⌜ r ≡ eqb (plain (now (k .entry))) (length (now (k .entry))) ⌝ }
+{
+    let mut i = 0;
+    while 4 <= k.len() - i {
+        if stops_in_four(k, i) {
+            return false;
+        }
+        i += 4;
+    }
+    plain_rest(k, i) == k.len()
+}
+
+// Two passes: a zero byte, then UTF-8.
+fn is_valid_mixed(k: &[u8]) -> bool
     ensures { λ r. ⌜ r ≡ validCstr (now (k .entry)) ⌝ }
 {
     if first_zero(k) == k.len() {
         return utf8::is_utf8(k);
     }
     false
+}
+
+// Whether the bytes can be a key, a pattern or options: UTF-8 and no zero byte.
+pub fn is_valid_cstr(k: &[u8]) -> bool
+    ensures { λ r. ⌜ r ≡ validCstr (now (k .entry)) ⌝ }
+{
+    if is_plain(k) {
+        return true;
+    }
+    is_valid_mixed(k)
 }
 
 // Whether two keys have equal bytes.

@@ -1,6 +1,7 @@
 // Numbers as bytes and bits: four bytes, least first, of lengths and the halves of longer numbers; the bits of signed ones (BSON 1.1, "Basic Types").
 ghost use mathlib.Core.Path.{_≡_};
 ghost use Rattle.bson.specs.Grammar as grammar;
+ghost use Rattle.bson.specs.Output.{output, putText};
 
 pub fn bytes32(n: usize) -> [u8; 4]
     ensures { λ r. ⌜ r ≡ grammar.bytes32 n ⌝ }
@@ -11,6 +12,14 @@ pub fn bytes32(n: usize) -> [u8; 4]
         (n / 65536 % 256) as u8,
         (n / 16777216 % 256) as u8,
     ]
+}
+
+// Puts the four bytes of a number at an offset; the offset behind them, or the same where they do not fit and nothing is written.
+pub fn put_bytes32(out: &mut [u8], at: usize, n: usize) -> usize
+    ensures { λ r. ⌜ output (now (out .exit)) r ≡ putText (output (now (out .entry)) at) (grammar.bytes32 n) ⌝ }
+{
+    let bytes = bytes32(n);
+    output::put_text(out, at, &bytes)
 }
 
 // The bits of a signed number, by two's complement.

@@ -10,11 +10,11 @@ use borrow.Author.Tests.{le-leb, lt-leb, eq-eqb, ne-eqb}
 use Rattle.bson.specs.Answer.{Answer, gives, refuses, then}
 use Rattle.bson.specs.Grammar.{bytes32, elementBytes, document}
 use Rattle.bson.specs.Output.{Output, output, put, putText}
-use Rattle.bson.specs.Writer.{State, used, depth, start, markOf, Kind, room, possible, innermost, keyIn, grown}
+use Rattle.bson.specs.Writer.{State, used, depth, start, markOf, Kind, room, possible, innermost, keyIn}
 use Rattle.bson.specs.Writer.{Desk, desk, appended, pushed, popped, openedTop, closed, openTop, close, answer, Written, written, leaves, performed}
-use Rattle.laws.proofs.GrammarLaws.{length-bytes32, length-element}
+use Rattle.laws.proofs.GrammarLaws.{length-bytes32}
 use Rattle.laws.proofs.OutputLaws.{text-fits}
-use Rattle.laws.proofs.WriterWords.{there, grown-used, grown-depth}
+use Rattle.laws.proofs.WriterWords.{grown-depth}
 use Rattle.laws.proofs.WriterLaws.{room-within, innermost-says, Sizes, sizes, Appended, appended-says}
 use Rattle.laws.proofs.WriterRefusals.{appended-refused, accepted-from}
 use Rattle.appending.specs.Refusal.{appending}
@@ -48,18 +48,15 @@ module _ (w : State) (buffer : List ℕ) (tag mark : ℕ) (key : List ℕ) (n : 
       by (gives d) q = absurd (h (ap (λ (x : Written). x .number) is ∙ ap (λ (a : Answer Desk). leaves (desk w buffer) a .number) q))
       by (refuses m p) q = is ∙ ap (leaves (desk w buffer)) q
 
-  pub opened-ready : n ≡ 0 → (depth v < 202) × (4 ≤ used v)
+  pub opened-ready : n ≡ 0 → depth v < 202
   unfolding was
   opened-ready z =
       let a : Appended (desk w buffer) 1 tag key true (bytes32 5) (desk v exit)
       = appended-says (desk w buffer) 1 tag key true (bytes32 5) (desk v exit) (accepted z) in
       let s = sizes (desk w buffer) (a .kind) (innermost-says (desk w buffer) (a .kind) (a .inner)) in
       let new = elementBytes tag (keyIn (a .kind) key) (bytes32 5) in
-      let g : v ≡ grown (a .kind) w (length new) = ap (λ (d : Desk). d .state) (a .is) in
-      let d : depth v ≡ depth w = ap depth g ∙ grown-depth w (a .kind) (length new) in
-      let u : used v ≡ used w + length new
-      = ap used g ∙ grown-used w (a .kind) (length new) (omega (arith, there w 1 (s .some))) in
-      (omega (arith, a .low, s .some), omega (arith, length-element tag (keyIn (a .kind) key) (bytes32 5), length-bytes32 5))
+      let d : depth v ≡ depth w = ap (λ (d : Desk). depth (d .state)) (a .is) ∙ grown-depth w (a .kind) (length new) in
+      omega (arith, a .low, s .some)
 
 -- the first document starts at 0
 four-before : (w : State) → used (set w 0 4) - 4 ≡ 0

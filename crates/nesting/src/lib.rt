@@ -26,9 +26,10 @@ fn open_in(out: &mut [u8], words: &mut [u32; 406], tag: u8, mark: u32, key: &[u8
     ensures { λ n. ⌜ writer.written n (now (words .exit)) (now (out .exit))
         ≡ openedAs (now (words .entry)) (now (out .entry)) tag mark (now (key .entry)) ⌝ }
 {
-    let n = appending::append(out, words, 1, tag, key, true, b"\x05\0\0\0", b"", b"", b"");
+    let n = appending::head(out, words, 1, tag, key, true, 4);
     if n == 0 {
         let start = words[0] - 4;
+        encode::put_bytes32(out, writer_state::wide(start), 5);
         push(words, start, mark);
     }
     n
@@ -75,8 +76,7 @@ fn put_length(out: &mut [u8], at: usize, n: usize)
     requires { ⌜ at + 4 ≤ length (now out) ⌝ }
     ensures { λ _. ⌜ now (out .exit) ≡ put (now (out .entry)) at (grammar.bytes32 n) ⌝ }
 {
-    let bytes = encode::bytes32(n);
-    output::put_text(out, at, &bytes);
+    encode::put_bytes32(out, at, n);
 }
 
 // One document fewer is open, and its zero is used.

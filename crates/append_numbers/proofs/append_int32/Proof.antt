@@ -1,62 +1,71 @@
--- `append_numbers::append_int32` meets its contract: the four bytes of its bits. Assumes nothing.
-use mathlib.Core.Path.{ap, _∙_}
+-- `append_numbers::append_int32` meets its contract: refused as its head is, or the four bytes of its bits behind it. Assumes nothing.
+use Prim.Native.Nat.{ℕ, _-_}
+use mathlib.Core.List.{[], _∷_}
+use mathlib.Core.Path.{ap, sym, _∙_}
 use mir.Syntax.{w32}
 use Rattle.bson.specs.Writer.{answer, performed}
 use Rattle.bson.specs.Grammar.{row, bytes32}
+use Rattle.laws.proofs.GrammarLaws.{length-bytes32}
 use Rattle.appending.specs.Refusal.{appending}
-use Rattle.appending.proofs.Valued.{valued}
+use Rattle.appending.proofs.Filled.{head-refused, head-ready, value-put}
 use Rattle.encode.proofs.Unsigned.{passed}
 use Rattle.append_numbers.proofs.Words.{word}
 use borrow.Author.Needs.{needs}
 use Rattle.append_numbers.proofs.append_int32.Statement.{statement}
 use Rattle.append_numbers.proofs.append_int32.Tie as tie
 
+head-requires : tie.Need-head-requires
+head-requires c κs = search needs
+
+used-requires : tie.Need-used-requires
+used-requires c κs = search needs
+
+sub-at : tie.Need-sub-at
+sub-at c =
+    let h = c .before .before .before .before .before in
+    head-ready _ _ _ _ _ _ _ _ _ _ (h .head .ensures) (c .before .before .if1 .taken) _ (c .used .ensures .0)
+
 bits32-requires : tie.Need-bits32-requires
-bits32-requires c κs = tt
+bits32-requires c κs = search needs
 
-cast-bytes32 : tie.Need-cast-bytes32
-cast-bytes32 c = search needs
+cast-put-bytes32 : tie.Need-cast-put-bytes32
+cast-put-bytes32 c = search needs
 
-bytes32-requires : tie.Need-bytes32-requires
-bytes32-requires c κs = tt
-
-slice-aggregate-append : tie.Need-slice-aggregate-append
-slice-aggregate-append c = search needs
-
-slice-aggregate-append-2 : tie.Need-slice-aggregate-append-2
-slice-aggregate-append-2 c = search needs
-
-slice-aggregate-append-3 : tie.Need-slice-aggregate-append-3
-slice-aggregate-append-3 c = search needs
-
-slice-aggregate-append-4 : tie.Need-slice-aggregate-append-4
-slice-aggregate-append-4 c = search needs
-
-append-requires : tie.Need-append-requires
-append-requires c κs = tt
+put-bytes32-requires : tie.Need-put-bytes32-requires
+put-bytes32-requires c κs = search needs
 
 same-length : tie.Need-same-length
-same-length c = c .before .before .append .kept .0
+same-length c = search needs
 
 returns : tie.Need-returns
 unfolding performed answer row appending
 returns c =
-    let v = c .before .before .before .before .before .before .before .before .before in
-    let s = v .before .before .before .before in
-    let e = passed w32 (s .args .n) (s .fits .n) 0x8000_0000 (v .before .bits32 .ensures) in
-    valued _ _ _ _ _ _ (c .before .before .append .ensures) (word _ _ (v .bytes32 .ensures) ∙ ap bytes32 e)
+    let p = c .before .before in
+    let u = p .before .before .before in
+    let h = u .before .before .before .before .before in
+    let s = h .before .before .before .before .before in
+    let e = passed w32 (s .args .n) (s .fits .n) 0x8000_0000 (p .before .bits32 .ensures) in
+    value-put _ _ _ _ _ _ _ _ (sym (length-bytes32 _)) _ _ _ (h .head .ensures) (u .before .before .if1 .taken) (h .head .kept .0) _
+    (ap (λ (n : ℕ). n - 4) (u .used .ensures .0)) (_ ∷ []) (word _ ∙ ap bytes32 e) _ _ (p .put-bytes32 .ensures)
+
+same-length-2 : tie.Need-same-length-2
+same-length-2 c = search needs
+
+returns-2 : tie.Need-returns-2
+unfolding performed answer row appending
+returns-2 c = head-refused _ _ _ _ _ _ _ _ (sym (length-bytes32 _)) _ _ _ (c .before .before .before .head .ensures) (c .if1 .left)
 
 pub append-int32-spec : {M : Type 1} → statement M
 append-int32-spec =
     tie.close
     (tie.spec
+    head-requires
+    used-requires
+    sub-at
     bits32-requires
-    cast-bytes32
-    bytes32-requires
-    slice-aggregate-append
-    slice-aggregate-append-2
-    slice-aggregate-append-3
-    slice-aggregate-append-4
-    append-requires
+    cast-put-bytes32
+    put-bytes32-requires
     same-length
-    returns)
+    returns
+    same-length-2
+    returns-2)

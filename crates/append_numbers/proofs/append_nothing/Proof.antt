@@ -1,37 +1,17 @@
--- `append_numbers::append_nothing` meets its contract: a tag and a key alone. Assumes nothing.
-use mathlib.Core.Path.{refl}
+-- `append_numbers::append_nothing` meets its contract: a head alone. Assumes nothing.
+use Rattle.appending.proofs.Filled.{nothing-put}
+use borrow.Author.Needs.{needs}
 use Rattle.append_numbers.proofs.append_nothing.Statement.{statement}
 use Rattle.append_numbers.proofs.append_nothing.Tie as tie
 
-slice-aggregate-append : tie.Need-slice-aggregate-append
-slice-aggregate-append c = refl
-
-slice-aggregate-append-2 : tie.Need-slice-aggregate-append-2
-slice-aggregate-append-2 c = refl
-
-slice-aggregate-append-3 : tie.Need-slice-aggregate-append-3
-slice-aggregate-append-3 c = refl
-
-slice-aggregate-append-4 : tie.Need-slice-aggregate-append-4
-slice-aggregate-append-4 c = refl
-
-append-requires : tie.Need-append-requires
-append-requires c κs = tt
+head-requires : tie.Need-head-requires
+head-requires c κs = search needs
 
 same-length : tie.Need-same-length
-same-length c = c .before .before .append .kept .0
+same-length c = search needs
 
 returns : tie.Need-returns
-returns c = c .before .before .append .ensures
+returns c = nothing-put _ _ _ _ _ _ _ _ _ (c .before .before .head .ensures) (c .before .before .head .kept .0)
 
 pub append-nothing-spec : {M : Type 1} → statement M
-append-nothing-spec =
-    tie.close
-    (tie.spec
-    slice-aggregate-append
-    slice-aggregate-append-2
-    slice-aggregate-append-3
-    slice-aggregate-append-4
-    append-requires
-    same-length
-    returns)
+append-nothing-spec = tie.close (tie.spec head-requires same-length returns)

@@ -1,15 +1,9 @@
--- `append_texts::append_symbol` meets its contract: a text with nothing behind it. Assumes nothing.
-use mathlib.Core.Path.{refl}
-use mathlib.Core.List.{append-nil}
+-- `append_texts::append_symbol` meets its contract: a text by its tag. Assumes nothing.
 use Rattle.bson.specs.Writer.{answer, performed}
 use Rattle.bson.specs.Grammar.{row}
 use Rattle.appending.specs.Refusal.{appending}
-use Rattle.appending.proofs.Valued.{valued}
 use Rattle.append_texts.proofs.append_symbol.Statement.{statement}
 use Rattle.append_texts.proofs.append_symbol.Tie as tie
-
-slice-aggregate-append-text : tie.Need-slice-aggregate-append-text
-slice-aggregate-append-text c = refl
 
 append-text-requires : tie.Need-append-text-requires
 append-text-requires c κs = tt
@@ -19,8 +13,7 @@ same-length c = c .before .before .append-text .kept .0
 
 returns : tie.Need-returns
 unfolding performed answer row appending
-returns c = valued _ _ _ _ _ _ (c .before .before .append-text .ensures) (append-nil _)
+returns c = c .before .before .append-text .ensures
 
 pub append-symbol-spec : {M : Type 1} → statement M
-append-symbol-spec =
-    tie.close (tie.spec slice-aggregate-append-text append-text-requires same-length returns)
+append-symbol-spec = tie.close (tie.spec append-text-requires same-length returns)

@@ -1,50 +1,61 @@
--- `appending::append` meets its contract: refused as the innermost is, or appended to it. Assumes nothing.
-use Rattle.bson.specs.Writer.{appended}
-use Rattle.laws.proofs.AnswerLaws.{answered}
-use Rattle.writer_state.specs.Said.{said}
-use Rattle.appending.specs.Refusal.{appending}
+-- `appending::append` meets its contract: refused as its head is, or the runs are put behind it. Assumes nothing.
+use mathlib.Core.Path.{ap}
+use Prim.Native.Nat.{ℕ, _-_}
+use native.Mathlib.Omega.{arith}
+use Rattle.appending.proofs.Runs.{runs-refused, runs-fit, runs-put}
+use borrow.Author.Needs.{needs}
 use Rattle.appending.proofs.append.Statement.{statement}
 use Rattle.appending.proofs.append.Tie as tie
 
-room-of-requires : tie.Need-room-of-requires
-room-of-requires c κs = tt
+total-requires : tie.Need-total-requires
+total-requires c κs = search needs
 
-innermost-requires : tie.Need-innermost-requires
-innermost-requires c κs = tt
+head-requires : tie.Need-head-requires
+head-requires c κs = search needs
 
-enum-known-kind : tie.Need-enum-known-kind
-enum-known-kind c = c .match .keys1
+used-requires : tie.Need-used-requires
+used-requires c κs = search needs
 
-append-in-requires : tie.Need-append-in-requires
-append-in-requires c κs =
-    let i = c .before .before .before .before .before in
-    (i .before .before .room-of .ensures, answered said (i .innermost .ensures) (c .before .before .before .kind .given .1))
+sub-at : tie.Need-sub-at
+sub-at c =
+    let h = c .before .before .before .before .before in
+    let a = h .before .before .before .before .before .before .before .before .before .before .args in
+    let f = runs-fit _ _ _ _ _ _ (a .p .now) (a .q .now) (a .r .now) (a .s .now) _ (h .before .before .before .total .ensures) _ _ _ (h .head .ensures) (c .before .before .if1 .taken) in
+    omega (arith, c .used .ensures .0)
 
-enum-known-n : tie.Need-enum-known-n
-enum-known-n c = c .match .keys2
+put-runs-requires : tie.Need-put-runs-requires
+put-runs-requires c κs = search needs
 
 same-length : tie.Need-same-length
-same-length c = c .before .before .append-in .kept .0
+same-length c = search needs
 
 returns : tie.Need-returns
-returns c = c .before .before .append-in .ensures
+returns c =
+    let u = c .before .before .before .before in
+    let h = u .before .before .before .before .before in
+    let t = h .before .before .before in
+    runs-put _ _ _ _ _ _ _ _ _ _ _ (t .total .ensures) _ _ _ (h .head .ensures) (u .before .before .if1 .taken) (h .head .kept .0) _
+    (ap (λ (n : ℕ). n - t .total .result) (u .used .ensures .0)) _ _ (c .before .before .put-runs .ensures)
+
+same-length-2 : tie.Need-same-length-2
+same-length-2 c = search needs
 
 returns-2 : tie.Need-returns-2
-unfolding appending appended
 returns-2 c =
-    let i = c .before .before .before in
-    let e = answered said (i .innermost .ensures) (c .before .n .given .1) in
-    rw (← i .before .before .room-of .ensures, e)
+    let h = c .before .before .before in
+    let a = h .before .before .before .before .before .before .before .before .before .before .args in
+    runs-refused _ _ _ _ _ _ (a .p .now) (a .q .now) (a .r .now) (a .s .now) _ (h .before .before .before .total .ensures) _ _ _ (h .head .ensures) (c .if1 .left)
 
 pub append-spec : {M : Type 1} → statement M
 append-spec =
     tie.close
     (tie.spec
-    room-of-requires
-    innermost-requires
-    enum-known-kind
-    append-in-requires
-    enum-known-n
+    total-requires
+    head-requires
+    used-requires
+    sub-at
+    put-runs-requires
     same-length
     returns
+    same-length-2
     returns-2)

@@ -31,14 +31,14 @@ sub-left c = omega arith
 key-size-requires : tie.Need-key-size-requires
 key-size-requires c κs = tt
 
-add-fit : tie.Need-add-fit
-add-fit c = omega arith
+add-fits : tie.Need-add-fits
+add-fits c = omega arith
 
-add-fit-2 : tie.Need-add-fit-2
-add-fit-2 c = omega arith
+add-fits-2 : tie.Need-add-fits-2
+add-fits-2 c = omega arith
 
-fit-requires : tie.Need-fit-requires
-fit-requires c κs = tt
+fits-requires : tie.Need-fits-requires
+fits-requires c κs = tt
 
 returns-2 : tie.Need-returns-2
 returns-2 c =
@@ -47,7 +47,7 @@ returns-2 c =
     let e = room-decides _ _ _ _ _ _ _ _ (b .before .before .before .next-depth .ensures) (b .before .before .if1 .left) _
     (b .before .key-passes .ensures)
     (b .if2 .taken) _ _ _ (k .before .before .used .ensures .0) (k .before .depth .ensures .0) (k .key-size .ensures .0) (omega arith)
-    _ (c .before .fit .ensures) in
+    _ (c .before .fits2 .ensures) in
     ap (λ (f : Bool). cond {A = ℕ} f 0 14) (sym (c .if3 .taken)) ∙ e
 
 returns-3 : tie.Need-returns-3
@@ -57,7 +57,7 @@ returns-3 c =
     let e = room-decides _ _ _ _ _ _ _ _ (b .before .before .before .next-depth .ensures) (b .before .before .if1 .left) _
     (b .before .key-passes .ensures)
     (b .if2 .taken) _ _ _ (k .before .before .used .ensures .0) (k .before .depth .ensures .0) (k .key-size .ensures .0) (omega arith)
-    _ (c .before .fit .ensures) in
+    _ (c .before .fits2 .ensures) in
     ap (λ (f : Bool). cond {A = ℕ} f 0 14) (sym (c .if3 .left)) ∙ e
 
 returns-4 : tie.Need-returns-4
@@ -77,9 +77,9 @@ refusal-spec =
     add-left
     sub-left
     key-size-requires
-    add-fit
-    add-fit-2
-    fit-requires
+    add-fits
+    add-fits-2
+    fits-requires
     returns-2
     returns-3
     returns-4)

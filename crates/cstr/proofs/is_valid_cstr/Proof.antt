@@ -1,23 +1,19 @@
--- `cstr::is_valid_cstr` meets its contract: each way out by the test that led there. Assumes nothing.
-use borrow.Author.Tests.{eq-eqb, ne-eqb}
-use Rattle.bson.specs.Cstring.{validCstr}
-use borrow.Author.Needs.{needs}
+-- `cstr::is_valid_cstr` meets its contract: plain bytes are a key as they stand. Assumes nothing.
+use Rattle.cstr.proofs.Plain.{plain-valid}
 use Rattle.cstr.proofs.is_valid_cstr.Statement.{statement}
 use Rattle.cstr.proofs.is_valid_cstr.Tie as tie
 
-first-zero-requires : tie.Need-first-zero-requires
-first-zero-requires c κs = search needs
-
-is-utf8-requires : tie.Need-is-utf8-requires
-is-utf8-requires c κs = search needs
+is-plain-requires : tie.Need-is-plain-requires
+is-plain-requires c κs = tt
 
 returns : tie.Need-returns
-unfolding validCstr
-returns c = rw (← c .before .before .first-zero .ensures, eq-eqb _ _ (c .before .if1 .taken)) (c .is-utf8 .ensures)
+returns c = plain-valid _ _ (c .before .is-plain .ensures) (c .if1 .taken)
+
+is-valid-mixed-requires : tie.Need-is-valid-mixed-requires
+is-valid-mixed-requires c κs = tt
 
 returns-2 : tie.Need-returns-2
-unfolding validCstr
-returns-2 c = rw (← c .before .first-zero .ensures, ne-eqb _ _ (c .if1 .left))
+returns-2 c = c .is-valid-mixed .ensures
 
 pub is-valid-cstr-spec : {M : Type 1} → statement M
-is-valid-cstr-spec = tie.close (tie.spec first-zero-requires is-utf8-requires returns returns-2)
+is-valid-cstr-spec = tie.close (tie.spec is-plain-requires returns is-valid-mixed-requires returns-2)

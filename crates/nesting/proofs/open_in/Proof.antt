@@ -1,66 +1,67 @@
--- `nesting::open_in` meets its contract: refused as the element is, or one document more is open. Assumes nothing.
-use mathlib.Core.Path.{refl}
-use lib.Dec.{lit<}
-use Rattle.bson.specs.Grammar.{bytes32}
+-- `nesting::open_in` meets its contract: refused as its head is, or its length behind it and one document more open. Assumes nothing.
+use mathlib.Core.Path.{refl, sym}
+use mathlib.Core.List.{[], _∷_, append-nil}
+use Rattle.laws.proofs.GrammarLaws.{length-bytes32}
+use Rattle.appending.proofs.Filled.{head-refused, head-ready, value-put}
 use Rattle.nesting.proofs.Turns.{opened-ready, opened-done, opened-refused}
+use borrow.Author.Needs.{needs}
 use Rattle.nesting.proofs.open_in.Statement.{statement}
 use Rattle.nesting.proofs.open_in.Tie as tie
 
-slice-aggregate-append : tie.Need-slice-aggregate-append
-slice-aggregate-append c = refl
-
-slice-aggregate-append-2 : tie.Need-slice-aggregate-append-2
-slice-aggregate-append-2 c = refl
-
-slice-aggregate-append-3 : tie.Need-slice-aggregate-append-3
-slice-aggregate-append-3 c = refl
-
-slice-aggregate-append-4 : tie.Need-slice-aggregate-append-4
-slice-aggregate-append-4 c = refl
-
-append-requires : tie.Need-append-requires
-append-requires c κs = tt
+head-requires : tie.Need-head-requires
+head-requires c κs = search needs
 
 element-copy-out-start : tie.Need-element-copy-out-start
-element-copy-out-start c = lit< tt
+element-copy-out-start c = search needs
 
 sub-start : tie.Need-sub-start
-unfolding bytes32
 sub-start c =
-    opened-ready _ _ _ 0 _ _ _ _ (c .before .before .before .before .append .ensures) (c .before .if1 .taken) .1
+    head-ready _ _ _ _ _ _ _ _ _ _ (c .before .before .before .before .head .ensures) (c .before .if1 .taken) _ refl
+
+wide-requires : tie.Need-wide-requires
+wide-requires c κs = search needs
+
+put-bytes32-requires : tie.Need-put-bytes32-requires
+put-bytes32-requires c κs = search needs
 
 push-requires : tie.Need-push-requires
-unfolding bytes32
 push-requires c κs =
-    opened-ready _ _ _ 0 _ _ _ _ (c .before .before .before .before .before .append .ensures) (c .before .before .if1 .taken) .0
+    let p = c .before .before .before in
+    let i = p .before .before .before .before in
+    let h = i .before .before .before in
+    let e = value-put _ _ _ _ _ _ _ _ (sym (length-bytes32 5)) _ _ _ (h .head .ensures) (i .if1 .taken) (h .head .kept .0) _
+    (p .before .wide .ensures .0) (_ ∷ []) (append-nil _) _ _ (p .put-bytes32 .ensures) in
+    opened-ready _ _ _ 0 _ _ _ _ e (i .if1 .taken)
 
 same-length : tie.Need-same-length
-same-length c = c .before .before .before .before .before .before .append .kept .0
+same-length c = search needs
 
 returns : tie.Need-returns
-unfolding bytes32
 returns c =
-    opened-done _ _ _ _ _ _ _ _ (c .before .before .before .before .before .before .append .ensures)
-    (c .before .before .before .if1 .taken) _ (c .push .ensures)
+    let p = c .before .before .before .before in
+    let i = p .before .before .before .before in
+    let h = i .before .before .before in
+    let e = value-put _ _ _ _ _ _ _ _ (sym (length-bytes32 5)) _ _ _ (h .head .ensures) (i .if1 .taken) (h .head .kept .0) _
+    (p .before .wide .ensures .0) (_ ∷ []) (append-nil _) _ _ (p .put-bytes32 .ensures) in
+    opened-done _ _ _ _ _ _ _ _ e (i .if1 .taken) _ (c .push .ensures)
 
 same-length-2 : tie.Need-same-length-2
-same-length-2 c = c .before .before .before .append .kept .0
+same-length-2 c = search needs
 
 returns-2 : tie.Need-returns-2
-unfolding bytes32
-returns-2 c = opened-refused _ _ _ _ _ _ _ _ (c .before .before .before .append .ensures) (c .if1 .left)
+returns-2 c =
+    opened-refused _ _ _ _ _ _ _ _
+    (head-refused _ _ _ _ _ _ _ _ (sym (length-bytes32 5)) _ _ _ (c .before .before .before .head .ensures) (c .if1 .left)) (c .if1 .left)
 
 pub open-in-spec : {M : Type 1} → statement M
 open-in-spec =
     tie.close
     (tie.spec
-    slice-aggregate-append
-    slice-aggregate-append-2
-    slice-aggregate-append-3
-    slice-aggregate-append-4
-    append-requires
+    head-requires
     element-copy-out-start
     sub-start
+    wide-requires
+    put-bytes32-requires
     push-requires
     same-length
     returns

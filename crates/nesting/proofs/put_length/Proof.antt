@@ -1,36 +1,27 @@
 -- `nesting::put_length` meets its contract: the bytes fit. Assumes nothing.
-use Prim.Native.Nat.{ℕ}
 use mathlib.Core.Path.{_≡_, ap, _∙_}
-use mathlib.Core.List.{List}
 use native.Mathlib.Omega.{arith}
 use lib.ListN.{length}
 use Rattle.bson.specs.Grammar.{bytes32}
-use Rattle.bson.specs.Output.{Output, output, putText}
+use Rattle.bson.specs.Output.{Output}
 use Rattle.laws.proofs.GrammarLaws.{length-bytes32}
 use Rattle.laws.proofs.OutputLaws.{text-fits}
+use borrow.Author.Needs.{needs}
 use Rattle.nesting.proofs.put_length.Statement.{statement}
 use Rattle.nesting.proofs.put_length.Tie as tie
 
-bytes32-requires : tie.Need-bytes32-requires
-bytes32-requires c κs = tt
-
-slice-aggregate-put-text : tie.Need-slice-aggregate-put-text
-slice-aggregate-put-text c = omega arith
-
-put-text-requires : tie.Need-put-text-requires
-put-text-requires c κs = tt
+put-bytes32-requires : tie.Need-put-bytes32-requires
+put-bytes32-requires c κs = search needs
 
 same-length : tie.Need-same-length
-same-length c = c .before .before .put-text .kept .0
+same-length c = search needs
 
 returns : tie.Need-returns
 returns c =
-    let a = c .before .before .before .before .before .before .before .args in
-    let e = ap (λ (t : List ℕ). putText (output (a .out .now) (a .at)) t) (c .before .before .before .before .before .bytes32 .ensures) in
+    let p = c .before .before in
+    let a = p .before .before .before .args in
     let l : length (bytes32 (a .n)) ≡ 4 = length-bytes32 (a .n) in
-    ap (λ (o : Output). o .buffer) (c .before .before .put-text .ensures ∙ e ∙ text-fits _ _ (bytes32 (a .n)) (omega arith))
+    ap (λ (o : Output). o .buffer) (p .put-bytes32 .ensures ∙ text-fits _ _ (bytes32 (a .n)) (omega arith))
 
 pub put-length-spec : {M : Type 1} → statement M
-put-length-spec =
-    tie.close
-    (tie.spec bytes32-requires slice-aggregate-put-text put-text-requires same-length returns)
+put-length-spec = tie.close (tie.spec put-bytes32-requires same-length returns)

@@ -1,0 +1,75 @@
+-- An element whose value is put in four runs, whose sizes together may pass every room (document 01, "Writer and joining"). Assumes nothing.
+use Prim.Native.Nat.{ℕ, _+_, _-_, _≤_, _<_}
+use mathlib.Core.Path.{_≡_, refl, sym, ap, _∙_}
+use mathlib.Core.List.{List, [], _∷_, _++_, append-nil}
+use mathlib.Core.Bool.{Bool, false}
+use native.Mathlib.Omega.{arith}
+use lib.Dec.{leb}
+use lib.ListN.{length, length-append}
+use borrow.Author.Tests.{leb-true, leb-false, le-leb, lt-leb}
+use Rattle.bson.specs.Output.{output, putTexts}
+use Rattle.bson.specs.Writer.{State, used, depth, keyIn, innermost, desk, room, written, leaves}
+use Rattle.laws.proofs.AnswerLaws.{then-same}
+use Rattle.laws.proofs.Common.{split}
+use Rattle.laws.proofs.WriterLaws.{room-within}
+use Rattle.appending.specs.Refusal.{appending}
+use Rattle.appending.specs.Heading.{headed, heading, bounded}
+use Rattle.appending.proofs.Filled.{head-refused, value-fits, value-put}
+
+pub within : (n : ℕ) → n ≤ 2147483647 → n ≡ bounded n
+unfolding bounded
+within n h = rw (le-leb n 2147483647 h)
+
+pub over : (n : ℕ) → 2147483647 < n → 2147483648 ≡ bounded n
+unfolding bounded
+over n h = rw (lt-leb n 2147483647 h)
+
+no-room : (u k n d m : ℕ) → m ≤ 2147483647 → 2147483647 < n → leb (u + (2 + k + n) + d) m ≡ false
+no-room u k n d m h g = lt-leb (u + (2 + k + n) + d) m (omega arith)
+
+module _ (w : State) (buffer : List ℕ) (more tag : ℕ) (key : List ℕ) (good : Bool) where
+  -- a size that no room has is refused as its bound is
+  bounded-heading : (size : ℕ) → heading w buffer more tag key good (bounded size) ≡ heading w buffer more tag key good size
+  unfolding heading headed
+  bounded-heading size =
+      split (leb size 2147483647) (λ t. rw (← within size (leb-true _ _ t)))
+      (λ t. let h = leb-false size 2147483647 t in
+      rw (← over size h)
+      (ap (leaves (desk w buffer)) (then-same (innermost w (room (length buffer))) _ _ λ kind ei.
+      let r = room-within (length buffer) .1 in
+      let k = length (keyIn kind key) in
+      let a = no-room (used w) k 2147483648 (depth w + more) (room (length buffer)) r (omega arith) in
+      let b = no-room (used w) k size (depth w + more) (room (length buffer)) r h in
+      rw (a, b))))
+
+  module _ (p q r s : List ℕ) (size : ℕ) (es : size ≡ bounded (length p + (length q + (length r + length s))))
+      (n : ℕ) (v : State) (b : List ℕ) (e : written n v b ≡ heading w buffer more tag key good size) where
+    value : List ℕ
+    value = p ++ (q ++ (r ++ s))
+
+    bounds : size ≡ bounded (length value)
+    unfolding value
+    bounds = let k : length (p ++ (q ++ (r ++ s))) ≡ length p + (length q + (length r + length s)) = simp (length-append) in es ∙ ap bounded (sym k)
+
+    is : written n v b ≡ heading w buffer more tag key good (length value)
+    is = e ∙ ap (heading w buffer more tag key good) bounds ∙ bounded-heading (length value)
+
+    pub runs-refused : (n ≡ 0 → ⊥) → written n v b ≡ appending w buffer more tag key good (p ++ (q ++ (r ++ s)))
+    unfolding value
+    runs-refused = head-refused w buffer more tag key good value (length value) refl n v b is
+
+    module _ (z : n ≡ 0) where
+      size-is : size ≡ length value
+      size-is =
+          let f = value-fits w buffer more tag key good value (length value) refl n v b is z in
+          bounds ∙ sym (within (length value) (omega arith))
+
+      pub runs-fit : size ≤ used v
+      runs-fit = value-fits w buffer more tag key good value size size-is n v b e z .0
+
+      pub runs-put : length b ≡ length buffer → (at : ℕ) → at ≡ used v - size → (exit : List ℕ) (end : ℕ)
+          → output exit end ≡ putTexts (output b at) (p ∷ q ∷ r ∷ s ∷ []) → written n v exit ≡ appending w buffer more tag key good (p ++ (q ++ (r ++ s)))
+      unfolding value
+      runs-put lb at ea exit end eo =
+          value-put w buffer more tag key good value size size-is n v b e z lb at ea (p ∷ q ∷ r ∷ s ∷ [])
+          (ap (λ (l : List ℕ). p ++ (q ++ (r ++ l))) (append-nil s)) exit end eo
