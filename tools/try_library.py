@@ -3,13 +3,15 @@
 byte that it was lent for writing must be what tools/rules.py, tools/writing.py and tools/joining.py say.
 
 Asked whole: the documents of the list; the sessions of the writer, call by call; all pairs of document 01's own bytes to join; slices of each size
-up to 71 bytes; texts of two characters; calls of the writer at the greatest room. Sampled, by seeds: 3,000 damaged copies of the documents, and of
-the pairs of documents 1,000 of each kind, good or damaged before good or damaged.
+up to 71 bytes; texts of two characters; texts of zeros but for one byte; values of each tag in each part of some slices; calls of the writer at the
+greatest room. Sampled, by seeds: 3,000 damaged copies of the documents, and of the pairs of documents 1,000 of each kind, good or damaged before
+good or damaged.
 
 Then the tool is tried itself, on some of the questions: each byte of an answer is changed behind the call, which must be reported, and the rules are
 made wrong, each of which must show as a difference.
 
-usage: tools/try_library.py ARCHIVE     the static library; needs cc
+usage: tools/try_library.py ARCHIVE                the static library; needs cc
+       tools/try_library.py --smallest ARCHIVE     of a library that may be wrong: prints the smallest question that differs, if one does
 """
 import ctypes
 import faulthandler
@@ -26,7 +28,8 @@ from unittest.mock import patch
 import joining
 import rules
 import writing
-from documents import FIELDS, ID, ROWS, Dice, bytes_to_try, doc, element, gets, keyed, le, resized, row_texts, short_beacon, text
+from documents import FIELDS, ID, OLD_BINARY, ROWS, SAMPLES, Dice, bytes_to_try, doc, element, gets, keyed, le, resized, row_texts
+from documents import short_beacon, text
 from make_cases import NUMBERS, RETURNED, documents
 from rules import Refused
 from writing import hexed, replayed, session
@@ -59,6 +62,7 @@ FUNCTIONS = {
     "lookup_typed": (FOUND, SLICE, SLICE, BYTE),
     "step": (STEPPED, SLICE, WHOLE, HALF),
     "read": (VALUE, SLICE, WHOLE),
+    "value_of": (VALUE, SLICE, WHOLE, BYTE, WHOLE, WHOLE),
     "join": (JOINED, SLICE, SLICE, OUT),
     "writer_new": (WRITER,),
     "writer_open": CALL,
@@ -192,14 +196,19 @@ def stepped(s, offset, ended):
     return 0, e.place, 0, e.offset + e.size, e.tag, e.place + 1, len(e.key), e.offset, e.size
 
 
-def value(s, place):
-    e, (word, *content) = rules.read_at(s, place)
+def value(rule, *args):
+    """An element and its value by a rule, in numbers."""
+    e, (word, *content) = rule(*args)
     bits = 0
     if e.tag in rules.NUMBERS or word == "binary":
         bits = content.pop(0) % 2**64
     elif word == "timestamp":
         bits, content = content[0] + 2**32 * content[1], ()
     return 0, 0, e.tag, bits, *content
+
+
+def read_given(s, e):
+    return e, rules.value_of(s, e)
 
 
 def question(name, rule, *args, asked):
@@ -227,7 +236,9 @@ def at_places(s, elements):
     for offset in dict.fromkeys([*reached, *inside, max(len(s) - 1, 0), len(s), len(s) + 1, *STRANGE]):
         for ended in (False, True):
             yield question("step", stepped, s, offset, ended, asked=(s, offset, ended))
-        yield question("read", value, s, offset, asked=(s, offset))
+        yield question("read", value, rules.read_at, s, offset, asked=(s, offset))
+    for e in elements:
+        yield question("value_of", value, rules.read_at, s, e.place, asked=(s, e.place, e.tag, e.offset, e.size))
 
 
 def lookups(s, elements, asks):
@@ -249,6 +260,25 @@ def about(s, asks=()):
     elements = yielded(s)
     yield from at_places(s, elements)
     yield from lookups(s, elements, asks)
+
+
+# ---- elements of the caller's own
+
+TAGS = (*rules.FIXED, *rules.FRAMED, 0x00, 0x14)
+
+
+def own_parts(s):
+    """Every part of a slice, those that run past it by a byte among them, and some far outside, where offset and size add up past 64 bits."""
+    yield from ((offset, size) for offset in range(len(s) + 2) for size in range(len(s) + 2 - offset))
+    yield from product(STRANGE, repeat=2)
+
+
+def own_elements():
+    """Each tag in each part of the samples of framed values, whatever a step would say; most of the slices are no documents."""
+    for s in (b"", OLD_BINARY, *(SAMPLES[tag] for tag in rules.FRAMED)):
+        for tag, (offset, size) in product(TAGS, own_parts(s)):
+            e = rules.Element(2**64 - 1 - tag, tag, b"", offset, size)
+            yield question("value_of", value, read_given, s, e, asked=(s, e.place, tag, offset, size))
 
 
 # ---- slices of each size up to two blocks of 32 bytes and more, since bytes are scanned and copied in blocks; and of one that needs three bytes
@@ -294,6 +324,13 @@ def texts_of_two():
     for row, end, second in product(ROWS, (0, 1), row_texts()):
         t = bytes(byte[end] for byte in row) + bytes(second)
         s = doc(element(0x02, "a", text(t)))
+        yield question("check", verdict, rules.check, s, asked=(s,))
+
+
+def lone_bytes():
+    """Each byte among zeros, in a text of one block of 32 bytes: no other byte there hides its bits."""
+    for byte, before in product(range(256), (0, 31)):
+        s = doc(element(0x02, "a", text(bytes(before) + bytes([byte]) + bytes(31 - before))))
         yield question("check", verdict, rules.check, s, asked=(s,))
 
 
@@ -462,19 +499,20 @@ def differing(library, questions):
                 break
 
 
-def all_questions():
-    yield from chain.from_iterable(about(d, asks) for d, asks in chain(documents(), sized_documents()))
-    yield from chain.from_iterable(about(d) for d in damaged(3000))
-    yield from texts_of_two()
-    yield from chain.from_iterable(joined(*pair) for pair in chain(telling_pairs(), sized_pairs(), pairs_at_random(1000)))
-    yield from all_sessions()
+def kinds_of_questions():
+    yield all_sessions()
+    yield chain.from_iterable(about(d, asks) for d, asks in chain(documents(), sized_documents()))
+    yield own_elements()
+    yield chain(texts_of_two(), lone_bytes())
+    yield chain.from_iterable(joined(*pair) for pair in chain(telling_pairs(), sized_pairs(), pairs_at_random(1000)))
+    yield chain.from_iterable(about(d) for d in damaged(3000))
 
 
 def compare(library):
     """Whether all answers are alike; and of each function and number the first question."""
     asked = differ = 0
     firsts = {}
-    for q in all_questions():
+    for q in chain.from_iterable(kinds_of_questions()):
         asked += 1
         firsts.setdefault((q[0], q[2][0]), q)
         for difference in differing(library, [q]):
@@ -483,6 +521,19 @@ def compare(library):
                 print(report(*difference))
     print(f"{asked - differ} answers of the library as document 01's rules say, {differ} differ")
     return differ == 0, firsts
+
+
+def smallest(library):
+    """The smallest question that differs, of the first kind that has one."""
+
+    def size(difference):
+        return sum(len(shown(arg)) for arg in difference[1])
+
+    for questions in kinds_of_questions():
+        difference = min(differing(library, questions), key=size, default=None)
+        if difference:
+            sys.exit(report(*difference))
+    print("no answer differs")
 
 
 # ---- the tool itself
@@ -496,6 +547,7 @@ REFUSALS = {
     "lookup_typed": NUMBERS["typed"],
     "step": NUMBERS["admission"] | NUMBERS["at"],
     "read": NUMBERS["admission"] | NUMBERS["at"] | NUMBERS["value"] | {16},
+    "value_of": NUMBERS["value"] | {5, 7},  # these two of an element that no step gave
     "join": NUMBERS["check"] | {14},
     "writer_new": set(),
 } | {NAMED.get(word, f"append_{word}"): returned for word, returned in RETURNED.items()}
@@ -548,6 +600,10 @@ def scope_of_14(v, right=rules.scope):
     return right(v)
 
 
+def framed_anew(s, tag, offset, size, right=rules.value_in):
+    return right(s, tag, offset, rules.value_size(tag, s[offset:]))
+
+
 def last_match(s, key, right=rules.get):
     matches = [e for e in yielded(s) if e.key == key]
     return (matches[-1], rules.value_of(s, matches[-1])) if matches else right(s, key)
@@ -563,6 +619,7 @@ WRONG_READING = {
     "a value that swallows the terminator ends": patch.object(rules, "step", swallowing_ends),
     "a short code with scope is not framed": patch.dict(rules.FRAMED, {0x0F: scope_of_14}),
     "the tag is tested before the key": patch.object(rules, "element", tag_first),
+    "a value's own part is framed anew": patch.object(rules, "value_in", framed_anew),
     "the last match is found": patch.object(rules, "get", last_match),
     "a scope lies one deeper": patch.dict(rules.OPENS, codewithscope=1),
     "every text is UTF-8": patch.object(rules, "is_utf8", lambda v: True),
@@ -581,7 +638,7 @@ WRONG_WRITING = {
 
 
 def some_reading():
-    return chain.from_iterable(about(d) for d, _ in documents()[::5])
+    return chain(own_elements(), chain.from_iterable(about(d) for d, _ in documents()[::5]))
 
 
 def all_telling():
@@ -599,10 +656,13 @@ def try_rules(library):
 
 
 def main():
-    if len(sys.argv) != 2:
+    if len(sys.argv) not in (2, 3) or sys.argv[1:-1] not in ([], ["--smallest"]):
         sys.exit(__doc__)
     faulthandler.enable()
-    library = Library(sys.argv[1])
+    library = Library(sys.argv[-1])
+    if len(sys.argv) == 3:
+        smallest(library)
+        return
     alike, firsts = compare(library)
     if not alike:
         sys.exit(1)

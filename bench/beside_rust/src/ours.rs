@@ -68,7 +68,14 @@ extern "C" {
     fn fringewell_check(document: *const u8, length: usize) -> Verdict;
     fn fringewell_lookup(document: *const u8, length: usize, key: *const u8, n: usize) -> Found;
     fn fringewell_step(document: *const u8, length: usize, offset: usize, ended: bool) -> Stepped;
-    fn fringewell_read(document: *const u8, length: usize, place: usize) -> Read;
+    fn fringewell_value_of(
+        document: *const u8,
+        length: usize,
+        place: usize,
+        tag: u8,
+        offset: usize,
+        size: usize,
+    ) -> Read;
     fn fringewell_writer_new() -> State;
     fn fringewell_writer_open(state: *mut State, out: *mut u8, room: usize) -> Written;
     fn fringewell_writer_close(state: *mut State, out: *mut u8, room: usize) -> Written;
@@ -127,7 +134,7 @@ impl Side for Ours {
             if step.ended != 0 {
                 return sum;
             }
-            let value = unsafe { fringewell_read(bytes, length, step.place as usize) };
+            let value = value_of(document, &step);
             assert_eq!(value.number, 0);
             sum = sum
                 .wrapping_add(step.tag + step.key_size)
@@ -161,6 +168,21 @@ impl Side for Ours {
 
     fn built(&self) -> &[u8] {
         &self.buffer[..self.used]
+    }
+}
+
+/// The value of the element that a step gave.
+fn value_of(document: &[u8], step: &Stepped) -> Read {
+    let [place, offset, size] = [step.place, step.offset, step.size].map(|number| number as usize);
+    unsafe {
+        fringewell_value_of(
+            document.as_ptr(),
+            document.len(),
+            place,
+            step.tag as u8,
+            offset,
+            size,
+        )
     }
 }
 

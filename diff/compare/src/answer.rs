@@ -224,6 +224,7 @@ pub enum Part<'a> {
     Step(usize),
     EndedStep(usize),
     Read(usize),
+    ReadGiven(usize),
     Check,
     StrictCheck,
     /// The plain check against the Rust's own walk, `deep_utf8_lossy`, by kind.
@@ -245,6 +246,7 @@ impl Part<'_> {
             Self::Step(_) => "step",
             Self::EndedStep(_) => "step from an ended cursor",
             Self::Read(_) => "value",
+            Self::ReadGiven(_) => "value of the element given",
             Self::Check => "check",
             Self::StrictCheck => "strict check",
             Self::DeepCheck => "check, by the Rust's own walk",
@@ -262,7 +264,9 @@ impl fmt::Display for Part<'_> {
     fn fmt(&self, f: &mut fmt::Formatter) -> fmt::Result {
         let word = self.word();
         match self {
-            Self::Step(at) | Self::EndedStep(at) | Self::Read(at) => write!(f, "{word} at {at}"),
+            Self::Step(at) | Self::EndedStep(at) | Self::Read(at) | Self::ReadGiven(at) => {
+                write!(f, "{word} at {at}")
+            }
             Self::Get(key) | Self::Looked(key) => write!(f, "{word} [{}]", hex::encode(key)),
             Self::Typed(key, tag) => write!(f, "{word} [{}] {tag:02x}", hex::encode(key)),
             Self::Call(number) => write!(f, "{word} {number}"),

@@ -61,6 +61,7 @@ calls! {
     fringewell_lookup_typed(key: *const u8, key_length: usize, tag: u8) -> Found;
     fringewell_step(offset: usize, ended: bool) -> Stepped;
     fringewell_read(place: usize) -> Value;
+    fringewell_value_of(place: usize, tag: u8, offset: usize, size: usize) -> Value;
 }
 
 // Safety of each: the header asks for slices that may be read, and Rust's are.
@@ -93,4 +94,10 @@ pub fn step(document: &[u8], offset: usize, ended: bool) -> Stepped {
 
 pub fn read(document: &[u8], place: usize) -> Value {
     unsafe { fringewell_read(document.as_ptr(), document.len(), place) }
+}
+
+/// The value of an element, by its place, its tag and its framed bytes.
+pub fn value_of(document: &[u8], place: usize, tag: u8, value: (usize, usize)) -> Value {
+    let (at, length) = (document.as_ptr(), document.len());
+    unsafe { fringewell_value_of(at, length, place, tag, value.0, value.1) }
 }

@@ -68,7 +68,7 @@ fn disagreement(case: Case) {
 
 fn smallest_slice(bytes: Vec<u8>) -> Option<Disagreement> {
     let found = shrink::about_slice(&bytes)?;
-    let least = shrink::smaller_slice(bytes, found.word);
+    let least = shrink::smallest_slice(bytes, found.word);
     println!("slice {}", hex::encode(&least));
     shrink::about_slice(&least)
 }

@@ -3,12 +3,16 @@
 use crate::damage::mend;
 use crate::ledger::{Disagreement, Ledger};
 use crate::session;
+use crate::short::{NARROW, RAW, TELLING};
 use crate::slice;
 use crate::tree::{Element, Value};
 
 /// What is spent on one case, so that long ones end soon too.
 const MOST_BYTES: usize = 8_000_000;
 const MOST_SESSIONS: usize = 20_000;
+
+/// So many short bodies of each family are looked at first.
+const MOST_SHORT: u64 = 20_000;
 
 /// Runs of every size up to this are dropped, so that an element can go as a whole.
 const MOST_EXACT: usize = 48;
@@ -30,8 +34,18 @@ pub fn about_session(elements: &[Element], spare: usize) -> Option<Disagreement>
     ledger.first
 }
 
-/// The smallest slice found, of fewer bytes, or of smaller ones.
-pub fn smaller_slice(bytes: Vec<u8>, word: &'static str) -> Vec<u8> {
+/// The smallest slice found: the first short body that disagrees, in whatever part, else the slice made smaller.
+pub fn smallest_slice(bytes: Vec<u8>, word: &'static str) -> Vec<u8> {
+    let ranks = 0..MOST_SHORT;
+    let short = ranks.flat_map(|rank| [TELLING, NARROW, RAW].map(|family| family.slice(rank)));
+    let found = short
+        .filter(|slice| slice.len() < bytes.len())
+        .find(|slice| about_slice(slice).is_some());
+    found.unwrap_or_else(|| smaller_slice(bytes, word))
+}
+
+/// A slice of fewer bytes, or of smaller ones.
+fn smaller_slice(bytes: Vec<u8>, word: &'static str) -> Vec<u8> {
     let mut search = Search {
         best: bytes,
         word,

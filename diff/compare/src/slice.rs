@@ -139,8 +139,13 @@ fn value(element: &Element, ledger: &mut Ledger) -> bool {
             place: element.place,
         },
     };
-    let said = Said::value(library::read(element.outer, element.place), READING);
-    ledger.hold(Part::Read(element.place), rust, said);
+    let (bytes, place) = (element.outer, element.place);
+    let said = Said::value(library::read(bytes, place), READING);
+    ledger.hold(Part::Read(place), rust, said);
+    let tag = element.raw.element_type() as u8;
+    let framed = (element.offset, element.raw.size());
+    let said = Said::value(library::value_of(bytes, place, tag, framed), READING);
+    ledger.hold(Part::ReadGiven(place), rust, said);
     reading.value.is_ok()
 }
 
