@@ -1,7 +1,6 @@
 -- `whole::tell` meets its contract: what is told holds of the tag. Assumes nothing.
 use Rattle.laws.proofs.AnswerLaws.{answered}
 use Rattle.tags.specs.Said.{said}
-use borrow.Author.Needs.{needs}
 use Rattle.whole.proofs.tell.Statement.{statement}
 use Rattle.whole.proofs.tell.Tie as tie
 
@@ -12,10 +11,10 @@ returns-2 : tie.Need-returns-2
 returns-2 c = record {}
 
 returns-3 : tie.Need-returns-3
-returns-3 c = search needs
+returns-3 c = (c .before .before .before .if1 .left, c .before .if2 .left, c .if3 .taken)
 
 returns-4 : tie.Need-returns-4
-returns-4 c = search needs
+returns-4 c = (c .before .before .before .before .if1 .left, c .before .before .if2 .left, c .if4 .taken)
 
 kind-of-requires : tie.Need-kind-of-requires
 kind-of-requires c κs = tt
