@@ -1,10 +1,14 @@
 -- Bytes and numbers: little-endian, signed by two's complement (document 01, module 1; BSON 1.1, "Basic Types").
-use Prim.Native.Nat.{ℕ, suc, _+_, _*_, _-_}
+use Prim.Native.Nat.{ℕ, suc, _+_, _*_, _-_, _<_}
 use mathlib.Core.List.{List, [], _∷_}
 use mathlib.Core.Bool.{Bool, true, false, cond, _&&_}
 use lib.ListN.{getD, take, drop}
 use lib.Dec.{eqb, ltb}
 use lib.IntN.{ℤ, pos, negsuc}
+
+-- a slice holds bytes; behind its end `getD` gives the 0 asked for
+abbrev pub AreBytes : List ℕ → Type 0
+AreBytes s = (i : ℕ) → getD s i 0 < 256
 
 -- the unsigned number of the four bytes in front, least first
 unfoldable pub le32 : List ℕ → ℕ

@@ -1,5 +1,5 @@
--- What a document means: the elements that iterating it, reading its values and opening its documents and arrays yields (document 01,
--- "Writer and joining": what the writer closes "reads back"). Nothing here mentions the writer or the bytes of a tree.
+-- What a document means: the elements that iterating it, reading its values and opening its documents, arrays and scopes yields (document 01,
+-- "Writer and joining": what the writer closes "reads back"). Nothing here mentions the writer, the check or the bytes of a tree.
 use Prim.Native.Nat.{ℕ}
 use mathlib.Core.Path.{_≡_}
 use mathlib.Core.List.{List}
@@ -10,7 +10,7 @@ use Rattle.bson.specs.Step.{terminator, cursor, Element, past, yield, en
 use Rattle.bson.specs.Value.{boolean, int32, int64, dateTime, double, timestamp, objectId, decimal128, string, code, symbol}
 use Rattle.bson.specs.Value.{null, undefined, minKey, maxKey, dbPointer, binary, regex, Leaf, Value, readAt}
 use Rattle.bson.specs.Value as value
-use Rattle.bson.specs.Grammar.{Item, row, Nest, document, array, nestTag, Elements, none, leaf, nest}
+use Rattle.bson.specs.Grammar.{Item, row, Nest, embedded, scope, document, array, nestTag, Elements, none, leaf, nest}
 
 -- the item that a leaf read from a slice holds: its parts' bytes
 abbrev pub held : List ℕ → Leaf → Item
@@ -33,25 +33,33 @@ held s (decimal128 d) = decimal128 (bytes s d)
 held s minKey = minKey
 held s maxKey = maxKey
 
-abbrev pub opened : Nest → Part → Value
-opened document p = value.document p
-opened array p = value.array p
+-- what a value read from a slice holds: an item, or a nest, whose document lies in a part
+pub data Holding : Type 0 where
+  single : Item → Holding
+  nested : Nest → Part → Holding
 
--- the step at an offset yields an element with this key and tag, and its value reads as this
-pub record Yields (s : List ℕ) (offset : ℕ) (key : List ℕ) (tag : ℕ) (v : Value) (e : Element) : Type 0 where
+abbrev pub holding : List ℕ → Value → Holding
+holding s (value.leaf v) = single (held s v)
+holding s (value.document p) = nested (embedded document) p
+holding s (value.array p) = nested (embedded array) p
+holding s (value.codeWithScope c p) = nested (scope (bytes s c)) p
+
+-- the step at an offset yields an element with this key and tag, and the value read there holds this
+pub record Yields (s : List ℕ) (offset : ℕ) (key : List ℕ) (tag : ℕ) (h : Holding) (e : Element) : Type 0 where
   pub steps : step s (cursor offset false) ≡ gives (yield e)
   pub keyed : bytes s (e .key) ≡ key
   pub tagged : e .tag ≡ tag
-  pub reads : readAt s offset ≡ gives v
+  pub value : Value
+  pub reads : readAt s offset ≡ gives value
+  pub holds : holding s value ≡ h
 
 -- from an offset on a document yields these elements, one after the other, and then the end, at its terminator
 pub data MeansFrom : List ℕ → ℕ → Elements → Type 0 where
   ends : {s : List ℕ} {offset : ℕ} → offset ≡ terminator s → step s (cursor offset false) ≡ gives end → MeansFrom s offset none
-  yields : {s : List ℕ} {offset : ℕ} {key : List ℕ} {item : Item} {rest : Elements} (v : Leaf) (e : Element)
-      → Yields s offset key (row item .tag) (value.leaf v) e → held s v ≡ item → MeansFrom s (past e) rest
-      → MeansFrom s offset (leaf key item rest)
+  yields : {s : List ℕ} {offset : ℕ} {key : List ℕ} {item : Item} {rest : Elements} (e : Element)
+      → Yields s offset key (row item .tag) (single item) e → MeansFrom s (past e) rest → MeansFrom s offset (leaf key item rest)
   opens : {s : List ℕ} {offset : ℕ} {key : List ℕ} {n : Nest} {inner rest : Elements} (p : Part) (e : Element)
-      → Yields s offset key (nestTag n) (opened n p) e → MeansFrom (bytes s p) 4 inner → MeansFrom s (past e) rest
+      → Yields s offset key (nestTag n) (nested n p) e → MeansFrom (bytes s p) 4 inner → MeansFrom s (past e) rest
       → MeansFrom s offset (nest n key inner rest)
 
 -- "iteration starts at 4"

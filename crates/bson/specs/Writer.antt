@@ -9,7 +9,7 @@ use Rattle.bson.specs.Bytes.{natural}
 use Rattle.bson.specs.Cstring.{validCstr}
 use Rattle.bson.specs.Decimal.{decimal}
 use Rattle.bson.specs.Output.{put}
-use Rattle.bson.specs.Grammar.{bytes32, Item, row, Nest, document, array, nestTag, elementBytes}
+use Rattle.bson.specs.Grammar.{bytes32, Item, row, Embedded, document, array, embedded, nestTag, elementBytes}
 
 -- a state is 406 words: how many bytes are used, how many documents are open, and two words for each that is, outermost first
 abbrev pub State : Type 0
@@ -53,7 +53,7 @@ abbrev pub passes : {A : Type 0} → (A → Bool) → Answer A → Bool
 passes test (gives a) = test a
 passes test (refuses n p) = false
 
-abbrev pub markOf : Nest → ℕ
+abbrev pub markOf : Embedded → ℕ
 markOf document = 0xFFFF_FFFF
 markOf array = 0
 
@@ -136,9 +136,9 @@ unfoldable pub pushed : State → ℕ → State
 pushed w mark = set (set (set w (startAt (depth w)) (used w - 4)) (markAt (depth w)) mark) 1 (depth w + 1)
 
 -- "opening writes 5 as the length"
-unfoldable pub openedIn : Desk → Nest → List ℕ → Answer Desk
+unfoldable pub openedIn : Desk → Embedded → List ℕ → Answer Desk
 openedIn d n key =
-    then (appended d 1 (nestTag n) key true (bytes32 5)) λ e.
+    then (appended d 1 (nestTag (embedded n)) key true (bytes32 5)) λ e.
     gives (desk (pushed (e .state) (markOf n)) (e .buffer))
 
 -- the top: "top opened twice" 18; its four bytes and its zero 14
@@ -164,7 +164,7 @@ closed d =
 pub data Call : Type 0 where
   openTop close : Call
   append : (key : List ℕ) → Item → Call
-  openNest : Nest → (key : List ℕ) → Call
+  openNest : Embedded → (key : List ℕ) → Call
 
 unfoldable pub answer : Call → Desk → Answer Desk
 answer openTop d = openedTop d

@@ -15,7 +15,8 @@ use Rattle.bson.specs.Answer.{gives, then}
 use Rattle.bson.specs.Bytes.{le32, le64, i32, i64, signed, part}
 use Rattle.bson.specs.Utf8.{utf8}
 use Rattle.bson.specs.Cstring.{isZero, firstZero, cstring, validCstr}
-use Rattle.bson.specs.Framing.{lengthField, fits, inFront, zeroEnded, stringSize, pointerSize, documentSize, binarySize, patternOptions, regexSize}
+use Rattle.bson.specs.Framing.{lengthField, fits, inFront, zeroEnded, stringSize, pointerSize, documentSize, binarySize, scopeSize}
+use Rattle.bson.specs.Framing.{patternOptions, regexSize}
 use Rattle.bson.specs.Step.{admitted}
 use Rattle.bson.specs.Grammar.{bytes32, bytes64, unsigned, stringBytes, elementBytes, documentOf, Ranged}
 use Rattle.laws.proofs.Common.{split, both-hold}
@@ -202,6 +203,17 @@ binary-of n subtype d rest e h =
     let i : 5 + n ≡ length (bytes32 n ++ (subtype ∷ d)) = simp (length-append, length-bytes32) (omega arith) in
     rw (append-assoc (bytes32 n) (subtype ∷ d) rest, length-field-of v 4 0 n (le32-bytes n _ (omega arith)) (omega arith) (omega arith) h)
     (fits-of v (5 + n) (omega arith) ∙ ap gives i)
+
+-- the length of a code with scope counts itself
+pub scope-of : (n : ℕ) (w rest : List ℕ) → n ≡ 4 + length w → n < 2147483648
+    → scopeSize (bytes32 n ++ w ++ rest) ≡ gives (length (bytes32 n ++ w))
+unfolding scopeSize
+scope-of n w rest e h =
+    let v = bytes32 n ++ (w ++ rest) in
+    let l : length v ≡ n + length rest = simp (length-append, length-bytes32) (omega arith) in
+    let i : n ≡ length (bytes32 n ++ w) = simp (length-append, length-bytes32) (omega arith) in
+    rw (append-assoc (bytes32 n) w rest, length-field-of v 4 0 n (le32-bytes n _ (omega arith)) (omega arith) (omega arith) h)
+    (fits-of v n (omega arith) ∙ ap gives i)
 
 pub regex-of : (p o rest : List ℕ) → validCstr p ≡ true → validCstr o ≡ true
     → regexSize (p ++ (0 ∷ (o ++ (0 ∷ []))) ++ rest) ≡ gives (length (p ++ (0 ∷ (o ++ (0 ∷ [])))))

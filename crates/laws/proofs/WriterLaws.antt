@@ -11,7 +11,7 @@ use lib.Seq.{getD-set-same}
 use borrow.Author.Tests.{le-leb, lt-ltb, eq-eqb, leb-true, leb-false, ltb-true, eqb-true}
 use Rattle.bson.specs.Answer.{Answer, gives}
 use Rattle.bson.specs.Output.{put}
-use Rattle.bson.specs.Grammar.{bytes32, row, Nest, document, nestTag, elementBytes}
+use Rattle.bson.specs.Grammar.{bytes32, row, Embedded, embedded, document, nestTag, elementBytes}
 use Rattle.bson.specs.Writer.{State, used, depth, start, mark, Kind, kindOf, markOf, passes, kindHolds, stands, stand, room, possible, Desk, desk, popped}
 use Rattle.bson.specs.Writer.{roomOf, innermost, nextDepth, keyIn, keyPasses, grown, appended, pushed, openedIn, openedTop, closed}
 use Rattle.bson.specs.Writer.{Call, openTop, close, append, openNest, answer}
@@ -143,21 +143,21 @@ module _ (d : Desk) (more tag : ℕ) (key : List ℕ) (good : Bool) (value : Lis
   appended-gives a = rw (a .inner, le-leb _ _ (a .low), a .keyed, a .valued, le-leb _ _ (a .fits)) (ap gives (sym (a .is)))
 
 -- an accepted opening: its element, and one document more
-pub record Opened (d : Desk) (n : Nest) (key : List ℕ) (e : Desk) : Type 0 where
+pub record Opened (d : Desk) (n : Embedded) (key : List ℕ) (e : Desk) : Type 0 where
   pub between : Desk
-  pub element : Appended d 1 (nestTag n) key true (bytes32 5) between
+  pub element : Appended d 1 (nestTag (embedded n)) key true (bytes32 5) between
   pub is : e ≡ desk (pushed (between .state) (markOf n)) (between .buffer)
 
-module _ (d : Desk) (n : Nest) (key : List ℕ) (e : Desk) where
+module _ (d : Desk) (n : Embedded) (key : List ℕ) (e : Desk) where
   pub opened-says : openedIn d n key ≡ gives e → Opened d n key e
   unfolding openedIn
   opened-says h =
-      let (b, a, h1) = then-gives (appended d 1 (nestTag n) key true (bytes32 5)) _ h in
-      record { between = b; element = appended-says d 1 (nestTag n) key true (bytes32 5) b a; is = sym (gives-injective h1) }
+      let (b, a, h1) = then-gives (appended d 1 (nestTag (embedded n)) key true (bytes32 5)) _ h in
+      record { between = b; element = appended-says d 1 (nestTag (embedded n)) key true (bytes32 5) b a; is = sym (gives-injective h1) }
 
   pub opened-gives : Opened d n key e → openedIn d n key ≡ gives e
   unfolding openedIn
-  opened-gives o = rw (appended-gives d 1 (nestTag n) key true (bytes32 5) (o .between) (o .element)) (ap gives (sym (o .is)))
+  opened-gives o = rw (appended-gives d 1 (nestTag (embedded n)) key true (bytes32 5) (o .between) (o .element)) (ap gives (sym (o .is)))
 
 -- an accepted opening of the top
 pub record Topped (d e : Desk) : Type 0 where
@@ -251,11 +251,11 @@ closed-behind d e h c =
     (omega arith) in
     subst (Behind d) (sym (c .is)) (record { same = whole .same ∙ zero .same; long = whole .long ∙ zero .long; more = zero .more })
 
-opened-behind : (d : Desk) (n : Nest) (key : List ℕ) (e : Desk) → length (d .state) ≡ 406 → Opened d n key e → Behind d e
+opened-behind : (d : Desk) (n : Embedded) (key : List ℕ) (e : Desk) → length (d .state) ≡ 406 → Opened d n key e → Behind d e
 opened-behind d n key e h o =
-    let b = appended-behind d 1 (nestTag n) key true (bytes32 5) (o .between) h (o .element) in
+    let b = appended-behind d 1 (nestTag (embedded n)) key true (bytes32 5) (o .between) h (o .element) in
     let w = o .between .state in
-    let g : length w ≡ 406 = appended-words d 1 (nestTag n) key true (bytes32 5) (o .between) h (o .element) in
+    let g : length w ≡ 406 = appended-words d 1 (nestTag (embedded n)) key true (bytes32 5) (o .between) h (o .element) in
     let u : used (pushed w (markOf n)) ≡ used w = pushed-used w g (markOf n) in
     subst (Behind d) (sym (o .is)) (record {
       same = ap (λ (k : ℕ). drop k (o .between .buffer)) u ∙ b .same ∙ ap (λ (k : ℕ). drop k (d .buffer)) (sym u);

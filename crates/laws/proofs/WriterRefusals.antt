@@ -9,7 +9,7 @@ use lib.ListN.{length}
 use borrow.Author.Tests.{eqb-true}
 use Rattle.bson.specs.Answer.{Answer, gives, refuses}
 use Rattle.bson.specs.Bytes.{natural}
-use Rattle.bson.specs.Grammar.{bytes32, row, nestTag, elementBytes}
+use Rattle.bson.specs.Grammar.{bytes32, row, embedded, nestTag, elementBytes}
 use Rattle.bson.specs.Writer.{State, used, depth, mark, kindOf, possible, Desk, desk, roomOf, innermost, nextDepth, keyIn}
 use Rattle.bson.specs.Writer.{keyPasses, appended, openedIn, openedTop, closed, Call, openTop, close, append, openNest, answer, leaves, performed}
 use Rattle.laws.proofs.AnswerLaws.{oneOf, RefusesIn, given, then-in, unless-in, cond-in, refused-in}
@@ -50,7 +50,7 @@ answer-in openTop d =
     unless-in (possible (d .state) (roomOf d) && eqb (depth (d .state)) 0) 18 refl (unless-in (leb 5 (roomOf d)) 14 refl given)
 answer-in close d = closed-in refl d
 answer-in (append key v) d = appended-in d 0 (row v .tag) key (row v .good) (row v .value)
-answer-in (openNest n key) d = then-in (appended-in d 1 (nestTag n) key true (bytes32 5)) (λ e q. given)
+answer-in (openNest n key) d = then-in (appended-in d 1 (nestTag (embedded n)) key true (bytes32 5)) (λ e q. given)
 
 -- "order: 18, 13, 15, 14"
 pub refused-number : (c : Call) (d : Desk) (n p : ℕ) → answer c d ≡ refuses n p → oneOf (13 ∷ 14 ∷ 15 ∷ 18 ∷ []) n ≡ true

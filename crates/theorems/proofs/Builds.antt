@@ -10,11 +10,12 @@ use lib.Seq.{take-all}
 use Rattle.bson.specs.Answer.{gives}
 use Rattle.bson.specs.Cstring.{validCstr}
 use Rattle.bson.specs.Decimal.{decimal}
-use Rattle.bson.specs.Grammar.{Item, row, Nest, document, isArray, Elements, none, leaf, nest, elementBytes, listBytes, treeBytes, Shallow, Good}
+use Rattle.bson.specs.Grammar.{Item, row, Embedded, document, embedded, scope, isArray, Elements, none, leaf, nest}
+use Rattle.bson.specs.Grammar.{elementBytes, listBytes, treeBytes, Shallow, InOrder}
 use Rattle.bson.specs.Grammar.{Numbered}
 use Rattle.bson.specs.Writer.{fresh, used, room, Desk, desk, roomOf, Call, openTop, close, append, openNest, answer}
 use Rattle.theorems.specs.ReadBack.{Open, opened, Building, building, built, behind, count, with, keyFor, after, Session, next, turn}
-use Rattle.theorems.specs.ReadBack.{run, begin, Typed, Accepted, Writable, Builds, WriterBuilds}
+use Rattle.theorems.specs.ReadBack.{run, begin, Typed, Accepted, Unscoped, Writable, Builds, WriterBuilds}
 use Rattle.laws.proofs.Common.{split}
 use Rattle.laws.proofs.GrammarLaws.{length-document}
 use Rattle.laws.proofs.WriterWords.{fresh-words}
@@ -43,11 +44,12 @@ leads-both (c ∷ calls) more s t u l m =
     let r = leads-both calls more (turn c s) t u (record { accepted = l .accepted .1; leaves = l .leaves }) m in
     record { accepted = (l .accepted .0, r .accepted); leaves = r .leaves }
 
--- the calls that give a tree's elements
+-- the calls that give the elements of a tree without code with scope
 abbrev callsOf : Elements → List Call
 callsOf none = []
 callsOf (leaf key v rest) = append key v ∷ callsOf rest
-callsOf (nest n key inner rest) = openNest n key ∷ ((callsOf inner ++ (close ∷ [])) ++ callsOf rest)
+callsOf (nest (embedded n) key inner rest) = openNest n key ∷ ((callsOf inner ++ (close ∷ [])) ++ callsOf rest)
+callsOf (nest (scope t) key inner rest) = callsOf rest
 
 typed-both : (calls more : List Call) → Typed calls → Typed more → Typed (calls ++ more)
 typed-both [] more t u = u
@@ -56,13 +58,14 @@ typed-both (close ∷ calls) more t u = typed-both calls more t u
 typed-both (append key v ∷ calls) more t u = (t .0, typed-both calls more (t .1) u)
 typed-both (openNest n key ∷ calls) more t u = typed-both calls more t u
 
-calls-typed : (t : Elements) → Good t → Typed (callsOf t)
+calls-typed : (t : Elements) → InOrder t → Typed (callsOf t)
 calls-typed none g = tt
 calls-typed (leaf key v rest) g = (g .1 .1 .0, calls-typed rest (g .1 .1 .1))
-calls-typed (nest n key inner rest) g =
+calls-typed (nest (embedded n) key inner rest) g =
     typed-both (callsOf inner ++ (close ∷ [])) (callsOf rest)
-    (typed-both (callsOf inner) (close ∷ []) (calls-typed inner (g .1 .0)) tt)
-    (calls-typed rest (g .1 .1))
+    (typed-both (callsOf inner) (close ∷ []) (calls-typed inner (g .1 .1 .0)) tt)
+    (calls-typed rest (g .1 .1 .1))
+calls-typed (nest (scope t) key inner rest) g = calls-typed rest (g .1 .1 .1)
 
 -- calls that lead to open documents, and the buffer is as long as it was
 record Reaches (s : Session) (calls : List Call) (o : Open) (around : List Open) : Type 0 where
@@ -100,7 +103,7 @@ module _ (d : Desk) (o : Open) (around : List Open) (h : Holds d (o ∷ around))
       subst (λ (k : List ℕ). Reaches (session d (building o around)) (append key v ∷ []) (with o (leaf k v none)) around) k
       (reaches-one (append key v) _ e _ around (h .words) x refl (append-holds d e o around key v h x))
 
-  nest-opened : (n : Nest) (key : List ℕ) → keyFor o key ≡ key → length around ≤ 200 → validCstr key ≡ true
+  nest-opened : (n : Embedded) (key : List ℕ) → keyFor o key ≡ key → length around ≤ 200 → validCstr key ≡ true
       → used (d .state) + (6 + length key) + (suc (length around) + 1) ≤ roomOf d
       → Reaches (session d (building o around)) (openNest n key ∷ []) (opened n key none) (o ∷ around)
   nest-opened n key k deep valid fits =
@@ -110,66 +113,68 @@ module _ (d : Desk) (o : Open) (around : List Open) (h : Holds d (o ∷ around))
 
 nest-closed : (d : Desk) (o p : Open) (around : List Open) → Holds d (o ∷ p ∷ around) → length around ≤ 200
     → used (d .state) + suc (suc (length around)) ≤ roomOf d
-    → Reaches (session d (building o (p ∷ around))) (close ∷ []) (with p (nest (o .nest) (o .key) (o .inside) none)) around
+    → Reaches (session d (building o (p ∷ around))) (close ∷ []) (with p (nest (embedded (o .nest)) (o .key) (o .inside) none)) around
 nest-closed d o p around h deep fits =
     let (e, x) = close-taken d o (p ∷ around) h (omega arith) fits in
     reaches-one close _ e _ around (h .words) x refl (close-holds d e o p around h x)
 
 -- a key that is numbered where it must be is the one that the writer makes
-made-key : (o : Open) (key : List ℕ) → (isArray (o .nest) ≡ true → key ≡ decimal (count (o .inside))) → keyFor o key ≡ key
-made-key o key h = split (isArray (o .nest)) (λ t. rw t (sym (h t))) (λ t. rw t)
+made-key : (o : Open) (key : List ℕ) → (isArray (embedded (o .nest)) ≡ true → key ≡ decimal (count (o .inside))) → keyFor o key ≡ key
+made-key o key h = split (isArray (embedded (o .nest))) (λ t. rw t (sym (h t))) (λ t. rw t)
 
 -- a tree's elements are taken behind those that are there
 abbrev Grows : Elements → Type 0
-Grows t = (d : Desk) (o : Open) (around : List Open) → Holds d (o ∷ around) → Good t → Numbered (isArray (o .nest)) (count (o .inside)) t
+Grows t = (d : Desk) (o : Open) (around : List Open) → Holds d (o ∷ around) → InOrder t → Unscoped t → Numbered (isArray (embedded (o .nest))) (count (o .inside)) t
     → Shallow (length around) t → used (d .state) + length (listBytes t) + suc (length around) ≤ roomOf d
     → Reaches (session d (building o around)) (callsOf t) (with o t) around
 
-nest-given : (n : Nest) (key : List ℕ) (inner : Elements) (d : Desk) (o : Open) (around : List Open) → Grows inner → Holds d (o ∷ around)
-    → keyFor o key ≡ key → length around ≤ 200 → validCstr key ≡ true → Good inner → Numbered (isArray n) 0 inner → Shallow (length around + 1) inner
+nest-given : (n : Embedded) (key : List ℕ) (inner : Elements) (d : Desk) (o : Open) (around : List Open) → Grows inner → Holds d (o ∷ around)
+    → keyFor o key ≡ key → length around ≤ 200 → validCstr key ≡ true → InOrder inner → Unscoped inner → Numbered (isArray (embedded n)) 0 inner → Shallow (length around + 1) inner
     → used (d .state) + (7 + length key + length (listBytes inner)) + suc (length around) ≤ roomOf d
-    → Reaches (session d (building o around)) (openNest n key ∷ (callsOf inner ++ (close ∷ []))) (with o (nest n key inner none)) around
-nest-given n key inner d o around grow h k deep valid good numbered shallow fits =
+    → Reaches (session d (building o around)) (openNest n key ∷ (callsOf inner ++ (close ∷ []))) (with o (nest (embedded n) key inner none)) around
+nest-given n key inner d o around grow h k deep valid good plain numbered shallow fits =
     let m = many h in
     let begun = shown-nested (opened n key none) o around in
     let ended = shown-nested (opened n key inner) o around in
     let r = nest-opened d o around h n key k deep valid (omega arith) in
     let (i, u) = reached r in
-    let q = grow (r .end) (opened n key none) (o ∷ around) (r .holds) good numbered (rw add-one at shallow) (omega (arith, none-length)) in
+    let q = grow (r .end) (opened n key none) (o ∷ around) (r .holds) good plain numbered (rw add-one at shallow) (omega (arith, none-length)) in
     let (j, v) = reached q in
     let c = nest-closed (q .end) (opened n key inner) o around (q .holds) deep (omega arith) in
     reaches-both (openNest n key ∷ []) (callsOf inner ++ (close ∷ [])) _ _ _ _ _ r (reaches-both (callsOf inner) (close ∷ []) _ _ _ _ _ q c)
 
 -- and the rest behind one element
 rest-given : (u t : Elements) (s : Session) (calls : List Call) (o : Open) (around : List Open) → Grows t → Reaches s calls (with o u) around
-    → count u ≡ 1 → Good t → Numbered (isArray (o .nest)) (suc (count (o .inside))) t → Shallow (length around) t
+    → count u ≡ 1 → InOrder t → Unscoped t → Numbered (isArray (embedded (o .nest))) (suc (count (o .inside))) t → Shallow (length around) t
     → length (shown (o ∷ around)) + length (listBytes u) + length (listBytes t) + suc (length around) ≤ roomOf (s .left)
     → Reaches s (calls ++ callsOf t) (with o (behind u t)) around
-rest-given u t s calls o around grow r one good numbered shallow fits =
+rest-given u t s calls o around grow r one good plain numbered shallow fits =
     let c : suc (count (o .inside)) ≡ count (with o u .inside) = omega (arith, count-behind (o .inside) u) in
-    let m = subst (λ (c : ℕ). Numbered (isArray (o .nest)) c t) c numbered in
+    let m = subst (λ (c : ℕ). Numbered (isArray (embedded (o .nest))) c t) c numbered in
     let l = ap length (shown-with o around u) ∙ length-append (shown (o ∷ around)) (listBytes u) in
     let (i, v) = reached r in
-    let q = grow (r .end) (with o u) around (r .holds) good m shallow (omega arith) in
+    let q = grow (r .end) (with o u) around (r .holds) good plain m shallow (omega arith) in
     rw (← behind-behind (o .inside) u t) (reaches-both calls (callsOf t) s _ _ around around r q)
 
 grows : (t : Elements) → Grows t
-grows none d o around h good numbered shallow fits =
+grows none d o around h good plain numbered shallow fits =
     rw (behind-none (o .inside)) (record { end = d; leads = record { accepted = tt; leaves = refl }; holds = h; kept = refl })
-grows (leaf key v rest) d o around h good numbered shallow fits =
+grows (leaf key v rest) d o around h good plain numbered shallow fits =
     let k = made-key o key (numbered .0) in
     let l = leaf-length key v rest in
     let m = many h in
     rest-given (leaf key v none) rest _ (append key v ∷ []) o around (grows rest)
     (leaf-given d o around h key v k (shallow .0) (good .0) (good .1 .0) (omega arith))
-    refl (good .1 .1 .1) (numbered .1) (shallow .1) (omega (arith, leaf-length key v none, none-length))
-grows (nest n key inner rest) d o around h good numbered shallow fits =
+    refl (good .1 .1 .1) plain (numbered .1) (shallow .1) (omega (arith, leaf-length key v none, none-length))
+grows (nest (scope t) key inner rest) d o around h good plain numbered shallow fits = absurd plain
+grows (nest (embedded n) key inner rest) d o around h good plain numbered shallow fits =
     let k = made-key o key (numbered .0) in
     let l = nest-length n key inner rest in
     let m = many h in
-    rest-given (nest n key inner none) rest _ (openNest n key ∷ (callsOf inner ++ (close ∷ []))) o around (grows rest)
-    (nest-given n key inner d o around (grows inner) h k (shallow .0) (good .0) (good .1 .0) (numbered .1 .0) (shallow .1 .0) (omega arith))
-    refl (good .1 .1) (numbered .1 .1) (shallow .1 .1) (omega (arith, nest-length n key inner none, none-length))
+    rest-given (nest (embedded n) key inner none) rest _ (openNest n key ∷ (callsOf inner ++ (close ∷ []))) o around (grows rest)
+    (nest-given n key inner d o around (grows inner) h k (shallow .0) (good .0) (good .1 .1 .0) (plain .0) (numbered .1 .0) (shallow .1 .0)
+    (omega arith))
+    refl (good .1 .1 .1) (plain .1) (numbered .1 .1) (shallow .1 .1) (omega (arith, nest-length n key inner none, none-length))
 
 -- the top opened, and closed again
 
@@ -207,15 +212,15 @@ tree-given t w buffer size =
     let (i, u) = reached r in
     let top = shown-top (opened document [] none) in
     reaches-both (openTop ∷ []) (callsOf t) (begin buffer) _ _ _ _ r
-    (grows t (r .end) (opened document [] none) [] (r .holds) (w .good) (w .numbered) (w .shallow) (omega (arith, none-length)))
+    (grows t (r .end) (opened document [] none) [] (r .holds) (w .good .ordered) (w .unscoped) (w .numbered) (w .shallow) (omega (arith, none-length)))
 
 -- every writable tree is built, in a buffer of just its size
 pub writer-builds : WriterBuilds
 writer-builds t w buffer size =
-    let s : roomOf (desk fresh buffer) ≡ length (treeBytes t) = room-small (length buffer) (omega (arith, w .fits)) ∙ size in
+    let s : roomOf (desk fresh buffer) ≡ length (treeBytes t) = room-small (length buffer) (omega (arith, w .good .fits)) ∙ size in
     let l = length-document (listBytes t) in
     let r = tree-given t w buffer s in
     let (i, u) = reached r in
     let top = shown-top (opened document [] t) in
     let (e, x) = close-taken (r .end) (opened document [] t) [] (r .holds) (omega arith) (omega arith) in
-    tree-built t buffer (openTop ∷ callsOf t) r size (calls-typed t (w .good)) e x
+    tree-built t buffer (openTop ∷ callsOf t) r size (calls-typed t (w .good .ordered)) e x

@@ -1,14 +1,14 @@
--- The elements that iterating a document yields: each place holds one, so only one comes first with a key (document 01, "Values"; demand
--- 3). Assumes nothing.
-use Prim.Native.Nat.{ℕ, zero, suc, _-_, _<_}
-use mathlib.Core.Path.{_≡_, sym, ap, _∙_}
+-- The elements that iterating a document yields: an offset lies in one at most, so only one comes first with a key; where the iteration comes to
+-- the terminator, none reaches past it (document 01, "Admission and one step", "Values"; demand 3). Assumes nothing.
+use Prim.Native.Nat.{ℕ, zero, suc, _≤_, _<_}
+use mathlib.Core.Path.{_≡_, sym, ap, subst, _∙_}
 use mathlib.Core.List.{List}
 use mathlib.Core.Bool.{false, true≢false}
 use native.Mathlib.Omega.{arith}
 use Rattle.bson.specs.Answer.{gives}
 use Rattle.bson.specs.Bytes.{bytes, same}
-use Rattle.bson.specs.Step.{cursor, Element, past, yield, step}
-use Rattle.bson.specs.Reach.{From, first, next, Among, First}
+use Rattle.bson.specs.Step.{terminator, cursor, Element, past, yield, step}
+use Rattle.bson.specs.Reach.{Ends, here, later, From, first, next, Among, First}
 use Rattle.laws.proofs.StepLaws.{Yields, step-yields}
 use Rattle.theorems.proofs.Spots.{one-element}
 use Rattle.laws.proofs.BytesLaws.{same-self}
@@ -35,6 +35,23 @@ one-place d e f a b i =
     let o : a .offset ≡ b .offset = sym (among-yields d e a .placed) ∙ i ∙ among-yields d f b .placed in
     one-element (step d (cursor (a .offset) false)) e f (a .yields) (rw o (b .yields))
 
+-- an element among a document's covers an offset
+pub record Covers (d : List ℕ) (i : ℕ) (e : Element) : Type 0 where
+  pub among : Among d e
+  pub begins : e .place ≤ i
+  pub ends : i < past e
+
+none-later : (d : List ℕ) (i : ℕ) (e f : Element) → Covers d i e → Covers d i f → e .place < f .place → ⊥
+none-later d i e f c k l =
+    let y = among-yields d e (c .among) in
+    let z = among-yields d f (k .among) in
+    outside (suc i) d _ _ e (omega arith) (c .among .from) (k .among .from) (c .among .yields) (omega arith) (omega arith)
+
+-- elements that cover one offset are one
+pub one-covers : (d : List ℕ) (i : ℕ) (e f : Element) → Covers d i e → Covers d i f → e ≡ f
+one-covers d i e f c k =
+    one-place d e f (c .among) (k .among) (omega (arith, none-later d i e f c k, none-later d i f e k c))
+
 -- so only one comes first
 pub first-one : (d key : List ℕ) (e f : Element) → First d key e → First d key f → e ≡ f
 first-one d key e f a b =
@@ -52,7 +69,27 @@ without-next d key e a w t f b l k =
     let y = among-yields d e a in
     let z = among-yields d f b in
     let i : f .place < a .offset → ⊥ = λ h. w f b h k in
-    let n = suc (b .offset) in
-    let j : a .offset < b .offset → ⊥ = λ h. outside n d _ (b .offset) e (omega arith) (a .from) (b .from) (a .yields) h (omega arith) in
-    let o : e ≡ f = one-place d e f a b (omega arith) in
+    let c : Covers d (f .place) e = record { among = a; begins = omega arith; ends = l } in
+    let o : e ≡ f = one-covers d (f .place) e f c (record { among = b; begins = omega arith; ends = omega arith }) in
     true≢false (sym (same-self key) ∙ ap (same key) (sym (ap (λ (g : Element). bytes d (g .key)) o ∙ k)) ∙ t)
+
+-- iteration that comes to the terminator does so from the next offset too, and so from each at which it steps
+pub ends-next : (d : List ℕ) (offset : ℕ) (e : Element) → step d (cursor offset false) ≡ gives (yield e) → Ends d offset → Ends d (past e)
+ends-next d offset e y (here q) = let z = step-yields d (cursor offset false) e y in absurd (omega arith)
+ends-next d offset e y (later f x r) = subst (λ (g : Element). Ends d (past g)) (one-element _ f e x y) r
+
+ends-from : (d : List ℕ) (offset : ℕ) → Ends d 4 → From d offset → Ends d offset
+ends-from d offset r first = r
+ends-from d offset r (next {offset = before} e p y) = ends-next d before e y (ends-from d before r p)
+
+pub ends-high : (d : List ℕ) (offset : ℕ) → Ends d offset → offset ≤ terminator d
+ends-high d offset (here q) = omega arith
+ends-high d offset (later e y r) = let z = step-yields d (cursor offset false) e y in omega arith
+
+-- so what an element covers lies between the length and the terminator
+pub covers-between : (d : List ℕ) (i : ℕ) (e : Element) → Ends d 4 → Covers d i e → (4 ≤ i) × (i < terminator d)
+covers-between d i e r c =
+    let a = c .among in
+    let y = among-yields d e a in
+    let h = ends-high d (past e) (ends-from d (past e) r (next e (a .from) (a .yields))) in
+    omega arith

@@ -6,7 +6,7 @@ use mathlib.Core.List.{List, [], _∷_, _++_}
 use lib.ListN.{length, take}
 use lib.Seq.{length-take-le}
 use Rattle.bson.specs.Answer.{gives}
-use Rattle.bson.specs.Grammar.{bytes32, Nest, document, array, nestTag, elementBytes, listBytes}
+use Rattle.bson.specs.Grammar.{bytes32, Embedded, document, array, embedded, nestTag, elementBytes, listBytes}
 use Rattle.bson.specs.Writer.{State, used, depth, start, mark, Kind, inDocument, inArray, kindOf, Desk}
 use Rattle.theorems.specs.ReadBack.{Open, count}
 
@@ -14,16 +14,16 @@ use Rattle.theorems.specs.ReadBack.{Open, count}
 unfoldable pub shown : List Open → List ℕ
 shown [] = []
 shown (o ∷ []) = bytes32 5 ++ listBytes (o .inside)
-shown (o ∷ p ∷ around) = shown (p ∷ around) ++ (elementBytes (nestTag (o .nest)) (o .key) (bytes32 5) ++ listBytes (o .inside))
+shown (o ∷ p ∷ around) = shown (p ∷ around) ++ (elementBytes (nestTag (embedded (o .nest))) (o .key) (bytes32 5) ++ listBytes (o .inside))
 
 -- where the innermost starts
 unfoldable pub startOf : List Open → ℕ
 startOf [] = 0
 startOf (o ∷ []) = 0
-startOf (o ∷ p ∷ around) = length (shown (p ∷ around)) + length (elementBytes (nestTag (o .nest)) (o .key) [])
+startOf (o ∷ p ∷ around) = length (shown (p ∷ around)) + length (elementBytes (nestTag (embedded (o .nest))) (o .key) [])
 
 -- a document or an array of n elements
-abbrev pub kindFor : Nest → ℕ → Kind
+abbrev pub kindFor : Embedded → ℕ → Kind
 kindFor document n = inDocument
 kindFor array n = inArray n
 

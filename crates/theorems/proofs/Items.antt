@@ -17,7 +17,7 @@ use Rattle.bson.specs.Tags
 use Rattle.bson.specs.Framing.{fits, inFront, framed, valueSize}
 use Rattle.bson.specs.Value
 use Rattle.bson.specs.Grammar.{bytes32, stringBytes, binaryBytes, Item, row, Fitting}
-use Rattle.bson.specs.Meaning.{held}
+use Rattle.bson.specs.Meaning.{held, Holding, single, holding}
 use Rattle.laws.proofs.AnswerLaws.{then-from}
 use Rattle.laws.proofs.Common.{split, both-hold}
 use Rattle.laws.proofs.TagLaws.{sizeFor, type-sized}
@@ -26,7 +26,7 @@ use Rattle.laws.proofs.GrammarLaws.{pattern-options-of, fits-of, in-front-of, s
 use Tags.{ElementType, Boolean, Int32, Double, Int64, DateTime, Timestamp, ObjectId, Decimal128, Null, Undefined, MinKey, MaxKey}
 use Tags.{String, JavaScriptCode, Symbol, DbPointer, Binary, RegularExpression, fixed, asString, tags, rowOf, typeOf}
 use Value.{boolean, int32, int64, dateTime, double, timestamp, objectId, decimal128, string, code, symbol, null, undefined, minKey, maxKey}
-use Value.{dbPointer, binary, regex, Leaf, leaf, asLeaf, bool, timestampOf, text, binaryValue, content, valueIn}
+use Value.{dbPointer, binary, regex, Leaf, Value, leaf, asLeaf, bool, timestampOf, text, binaryValue, content, valueIn}
 
 -- where from an offset on a slice has some bytes and others behind them
 
@@ -49,29 +49,33 @@ pub value-by : (s : List ℕ) (tag : ℕ) (t : ElementType) (p : Part) → typeO
 unfolding valueIn
 value-by s tag t p e inside = rw (le-leb _ _ inside) (then-from _ _ e)
 
--- bytes of a tag at an offset, with others behind, are framed, and read as a leaf that holds an item
-pub record Reads (s : List ℕ) (offset tag : ℕ) (value back : List ℕ) (item : Item) : Type 0 where
+-- bytes of a tag at an offset, with others behind, are framed, and what is read holds this
+pub record Reads (s : List ℕ) (offset tag : ℕ) (value back : List ℕ) (h : Holding) : Type 0 where
   pub sized : valueSize tag (value ++ back) ≡ gives (length value)
-  pub found : Leaf
-  pub reads : valueIn s tag (part offset (length value)) ≡ gives (leaf found)
-  pub holds : held s found ≡ item
+  pub found : Value
+  pub reads : valueIn s tag (part offset (length value)) ≡ gives found
+  pub holds : holding s found ≡ h
 
 module _ (s : List ℕ) (offset : ℕ) (value back : List ℕ) (here : drop offset s ≡ value ++ back) (inside : offset + length value ≤ length s) where
   abbrev here-part : Part
   here-part = part offset (length value)
 
-  here-bytes : bytes s here-part ≡ value
+  pub here-bytes : bytes s here-part ≡ value
   here-bytes = bytes-here s offset value back here (length value) refl
 
-  -- a type that has this tag frames them and reads a leaf
+  -- a type that has this tag frames and reads them
+  pub typed-value : (tag : ℕ) (h : Holding) (t : ElementType) → typeOf tag ≡ gives t → framed (sizeFor t) (value ++ back) ≡ gives (length value)
+      → (x : Value) → content s here-part t ≡ gives x → holding s x ≡ h → Reads s offset tag value back h
+  typed-value tag h t tagged f x c i =
+      record { sized = sized-by tag t _ tagged ∙ f; found = x; reads = value-by s tag t here-part tagged inside ∙ c; holds = i }
+
   typed : (tag : ℕ) (item : Item) (t : ElementType) → typeOf tag ≡ gives t → framed (sizeFor t) (value ++ back) ≡ gives (length value)
-      → (x : Leaf) → content s here-part t ≡ gives (leaf x) → held s x ≡ item → Reads s offset tag value back item
-  typed tag item t tagged f x c h =
-      record { sized = sized-by tag t _ tagged ∙ f; found = x; reads = value-by s tag t here-part tagged inside ∙ c; holds = h }
+      → (x : Leaf) → content s here-part t ≡ gives (leaf x) → held s x ≡ item → Reads s offset tag value back (single item)
+  typed tag item t tagged f x c h = typed-value tag (single item) t tagged f (leaf x) c (ap single h)
 
 module _ (s : List ℕ) (offset : ℕ) (t rest : List ℕ) (here : drop offset s ≡ stringBytes t ++ rest) where
   -- the text of a string lies behind its length
-  text-here : (size : ℕ) → size ≡ length t → bytes s (part (offset + 4) size) ≡ t
+  pub text-here : (size : ℕ) → size ≡ length t → bytes s (part (offset + 4) size) ≡ t
   unfolding stringBytes
   text-here size e =
       let n = bytes32 (length t + 1) in
@@ -86,7 +90,7 @@ module _ (s : List ℕ) (offset : ℕ) (t rest : List ℕ) (here : drop offset s
 -- bytes of a tag that read as an item wherever they lie in a slice
 abbrev pub Readable : ℕ → List ℕ → Item → Type 0
 Readable tag value item = (s : List ℕ) (offset : ℕ) (back : List ℕ) → length value < 2147483648 → drop offset s ≡ value ++ back
-    → offset + length value ≤ length s → Reads s offset tag value back item
+    → offset + length value ≤ length s → Reads s offset tag value back (single item)
 
 -- a value of a fixed size
 of-size : (tag : ℕ) (type : ElementType) (n : ℕ) (value : List ℕ) (item : Item) → typeOf tag ≡ gives type

@@ -7,31 +7,15 @@ use native.Mathlib.Omega.{arith}
 use lib.ListN.{length, drop, length-append, length-drop}
 use lib.Seq.{drop-at}
 use Rattle.bson.specs.Answer.{gives}
-use Rattle.bson.specs.Bytes.{part, bytes}
-use Rattle.bson.specs.Tags.{rowOf, tags, EmbeddedDocument, Array}
-use Rattle.bson.specs.Framing.{framed, valueSize}
 use Rattle.bson.specs.Step.{terminator, admitted}
-use Rattle.bson.specs.Value.{leaf as leafValue, content, valueIn}
-use Rattle.bson.specs.Grammar.{bytes32, row, Nest, document, array, nestTag, Elements, none, leaf, nest}
-use Rattle.bson.specs.Grammar.{elementBytes, documentOf, listBytes, treeBytes, Good}
-use Rattle.bson.specs.Meaning.{opened, MeansFrom, ends, yields, opens, Means}
+use Rattle.bson.specs.Grammar.{bytes32, row, nestTag, nestBytes, Elements, none, leaf, nest}
+use Rattle.bson.specs.Grammar.{elementBytes, documentOf, listBytes, treeBytes, InOrder, Good}
+use Rattle.bson.specs.Meaning.{single, MeansFrom, ends, yields, opens, Means}
 use Rattle.laws.proofs.AdvanceLaws.{step-ends}
-use Rattle.laws.proofs.GrammarLaws.{length-bytes32, length-document, document-of, document-admitted}
-use Rattle.theorems.proofs.Items.{bytes-here, sized-by, value-by, item-reads}
+use Rattle.laws.proofs.GrammarLaws.{length-bytes32, length-document, document-admitted}
+use Rattle.theorems.proofs.Items.{item-reads}
+use Rattle.theorems.proofs.Nests.{nest-longer, nest-reads}
 use Rattle.theorems.proofs.Steps.{elementHere, element-fits, value-here, next-here, yields-here}
-
--- a document or an array, handed back whole
-nest-sized : (n : Nest) (list back : List ℕ) → length list + 5 < 2147483648
-    → valueSize (nestTag n) (documentOf list ++ back) ≡ gives (length (documentOf list))
-unfolding framed rowOf tags
-nest-sized document list back h = sized-by 0x03 EmbeddedDocument _ refl ∙ document-of list back h
-nest-sized array list back h = sized-by 0x04 Array _ refl ∙ document-of list back h
-
-nest-reads : (n : Nest) (s : List ℕ) (offset size : ℕ) → offset + size ≤ length s
-    → valueIn s (nestTag n) (part offset size) ≡ gives (opened n (part offset size))
-unfolding content rowOf tags
-nest-reads document s offset size h = value-by s 0x03 EmbeddedDocument _ refl h
-nest-reads array s offset size h = value-by s 0x04 Array _ refl h
 
 -- a document's elements begin behind its length
 inner-here : (list : List ℕ) → drop 4 (documentOf list) ≡ list ++ (0 ∷ [])
@@ -39,7 +23,7 @@ unfolding documentOf
 inner-here list = drop-at (bytes32 (length list + 5)) (list ++ (0 ∷ [])) 4 (length-bytes32 _)
 
 -- the elements left from an offset on, up to the terminator
-means-from : (t : Elements) (s : List ℕ) (offset : ℕ) → Good t → admitted s ≡ gives (length s) → length s < 2147483648 → 4 ≤ offset
+means-from : (t : Elements) (s : List ℕ) (offset : ℕ) → InOrder t → admitted s ≡ gives (length s) → length s < 2147483648 → 4 ≤ offset
     → drop offset s ≡ listBytes t ++ (0 ∷ []) → MeansFrom s offset t
 unfolding listBytes
 means-from none s offset g a small low here =
@@ -55,30 +39,30 @@ means-from (leaf key v rest) s offset g a small low here =
     let m = length-append (listBytes rest) (0 ∷ []) in
     let r = item-reads v (g .1 .1 .0) (g .1 .0) s (offset + 1 + length key + 1) back (omega arith)
     (value-here s offset tag key value back start) (omega arith) in
-    let y = yields-here s offset tag key value back start (g .0) (r .sized) a low (omega arith) (leafValue (r .found)) (r .reads) in
-    yields (r .found) (elementHere offset tag key value) y (r .holds)
+    let y = yields-here s offset tag key value back start (g .0) (r .sized) a low (omega arith) (r .found) (single v) (r .reads) (r .holds) in
+    yields (elementHere offset tag key value) y
     (means-from rest s _ (g .1 .1 .1) a small (omega arith) (next-here s offset tag key value back start))
 means-from (nest n key inner rest) s offset g a small low here =
     let tag = nestTag n in
     let list = listBytes inner in
-    let value = documentOf list in
+    let value = nestBytes n (documentOf list) in
     let back = listBytes rest ++ (0 ∷ []) in
     let start = here ∙ append-assoc (elementBytes tag key value) (listBytes rest) (0 ∷ []) in
     let f = element-fits s offset tag key value back start in
     let m = length-append (listBytes rest) (0 ∷ []) in
-    let at = offset + 1 + length key + 1 in
-    let p = part at (length value) in
-    let l = length-document list in
-    let short : length list + 5 < 2147483648 = omega arith in
-    let y = yields-here s offset tag key value back start (g .0) (nest-sized n list back short) a low (omega arith) (opened n p)
-    (nest-reads n s at (length value) (omega arith)) in
-    let whole : bytes s p ≡ value = bytes-here s at value back (value-here s offset tag key value back start) _ refl in
-    let i = means-from inner value 4 (g .1 .0) (document-admitted list short) (omega arith) (omega arith) (inner-here list) in
-    opens p (elementHere offset tag key value) y (subst (λ (d : List ℕ). MeansFrom d 4 inner) (sym whole) i)
-    (means-from rest s _ (g .1 .1) a small (omega arith) (next-here s offset tag key value back start))
+    let w = nest-reads n list (g .1 .0) s (offset + 1 + length key + 1) back (omega arith)
+    (value-here s offset tag key value back start) (omega arith) in
+    let r = w .reads in
+    let y = yields-here s offset tag key value back start (g .0) (r .sized) a low (omega arith) (r .found) _ (r .reads) (r .holds) in
+    let short : length list + 5 < 2147483648 = omega (arith, length-document list, nest-longer n (documentOf list)) in
+    let i = means-from inner (documentOf list) 4 (g .1 .1 .0) (document-admitted list short) (omega (arith, length-document list)) (omega arith)
+    (inner-here list) in
+    opens (w .inner) (elementHere offset tag key value) y (subst (λ (d : List ℕ). MeansFrom d 4 inner) (sym (w .whole)) i)
+    (means-from rest s _ (g .1 .1 .1) a small (omega arith) (next-here s offset tag key value back start))
 
-pub means-back : (t : Elements) → Good t → length (treeBytes t) ≤ 2147483647 → Means (treeBytes t) t
-means-back t g h =
+pub means-back : (t : Elements) → Good t → Means (treeBytes t) t
+means-back t g =
     let l = length-document (listBytes t) in
+    let h = g .fits in
     let short : length (listBytes t) + 5 < 2147483648 = omega arith in
-    means-from t (treeBytes t) 4 g (document-admitted (listBytes t) short) (omega arith) (omega arith) (inner-here (listBytes t))
+    means-from t (treeBytes t) 4 (g .ordered) (document-admitted (listBytes t) short) (omega arith) (omega arith) (inner-here (listBytes t))

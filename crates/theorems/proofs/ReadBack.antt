@@ -11,8 +11,8 @@ use lib.ListN.{length, take}
 use Rattle.bson.specs.Answer.{Answer, gives, refuses}
 use Rattle.bson.specs.Cstring.{validCstr}
 use Rattle.bson.specs.Decimal.{decimal}
-use Rattle.bson.specs.Grammar.{bytes32, Item, row, Nest, document, array, nestTag, isArray, Elements, none, leaf, nest}
-use Rattle.bson.specs.Grammar.{listBytes, treeBytes, Shallow, Fitting, Good, Numbered}
+use Rattle.bson.specs.Grammar.{bytes32, Item, row, Embedded, document, array, embedded, nestTag, isArray, Elements, none, leaf, nest}
+use Rattle.bson.specs.Grammar.{listBytes, treeBytes, Shallow, Fitting, InOrder, Numbered}
 use Rattle.bson.specs.Writer.{fresh, used, depth, Kind, Desk, desk, roomOf, keyPasses, Call, openTop, close, append, openNest, answer}
 use Rattle.theorems.specs.ReadBack.{Open, opened, Building, unopened, building, built, behind, count, with, keyFor, after, Session, next}
 use Rattle.theorems.specs.ReadBack.{turn, run, begin, Typed, ReadsBack, Stands, WriterReadsBack}
@@ -22,15 +22,15 @@ use Rattle.laws.proofs.WriterWords.{fresh-closed}
 use Rattle.laws.proofs.WriterLaws.{possible-says, top-used, innermost-says, Appended, appended-says, opened-says, topped-says, closed-says}
 use Rattle.theorems.proofs.Holds.{kindFor, Holds}
 use Rattle.theorems.proofs.Means.{means-back}
-use Rattle.theorems.proofs.Passes.{means-passes}
+use Rattle.theorems.proofs.Passes.{plain-asked, means-passes}
 use Rattle.theorems.proofs.Trace.{kind-is, top-holds, append-holds, open-holds, close-holds, close-top}
 
 -- an element behind others: the tree stays a good one
 
-good-behind : (t more : Elements) → Good t → Good more → Good (behind t more)
-good-behind none more g h = h
-good-behind (leaf key v rest) more g h = (g .0, (g .1 .0, (g .1 .1 .0, good-behind rest more (g .1 .1 .1) h)))
-good-behind (nest n key inner rest) more g h = (g .0, (g .1 .0, good-behind rest more (g .1 .1) h))
+ordered-behind : (t more : Elements) → InOrder t → InOrder more → InOrder (behind t more)
+ordered-behind none more g h = h
+ordered-behind (leaf key v rest) more g h = (g .0, (g .1 .0, (g .1 .1 .0, ordered-behind rest more (g .1 .1 .1) h)))
+ordered-behind (nest n key inner rest) more g h = (g .0, (g .1 .0, (g .1 .1 .0, ordered-behind rest more (g .1 .1 .1) h)))
 
 shallow-behind : (level : ℕ) (t more : Elements) → Shallow level t → Shallow level more → Shallow level (behind t more)
 shallow-behind level none more g h = h
@@ -47,31 +47,31 @@ numbered-behind inArray i (nest n key inner rest) more g h =
 
 -- the elements of an open document are a good tree of values this deep
 record Sound (o : Open) (level : ℕ) : Type 0 where
-  good : Good (o .inside)
-  numbered : Numbered (isArray (o .nest)) 0 (o .inside)
+  ordered : InOrder (o .inside)
+  numbered : Numbered (isArray (embedded (o .nest))) 0 (o .inside)
   shallow : Shallow level (o .inside)
 
 -- a key that an element may have in an open document, whose values are this deep
 record Keyed (key : List ℕ) (o : Open) (level : ℕ) : Type 0 where
   valid : validCstr key ≡ true
-  numbered : isArray (o .nest) ≡ true → key ≡ decimal (count (o .inside))
+  numbered : isArray (embedded (o .nest)) ≡ true → key ≡ decimal (count (o .inside))
   low : level ≤ 200
 
 -- the open documents, innermost first: the top is no array, and each other has its key in the one around it
 unfoldable Sounds : List Open → Type 0
 Sounds [] = Unit
-Sounds (o ∷ []) = (isArray (o .nest) ≡ false) × Sound o 0
+Sounds (o ∷ []) = (isArray (embedded (o .nest)) ≡ false) × Sound o 0
 Sounds (o ∷ p ∷ around) = Keyed (o .key) p (length around) × (Sound o (length (p ∷ around)) × Sounds (p ∷ around))
 
-sound-with : (o : Open) (level : ℕ) (t : Elements) → Sound o level → Good t → Numbered (isArray (o .nest)) (count (o .inside)) t → Shallow level t
+sound-with : (o : Open) (level : ℕ) (t : Elements) → Sound o level → InOrder t → Numbered (isArray (embedded (o .nest))) (count (o .inside)) t → Shallow level t
     → Sound (with o t) level
 sound-with o level t s g n h = record {
-  good = good-behind (o .inside) t (s .good) g;
-  numbered = numbered-behind (isArray (o .nest)) 0 (o .inside) t (s .numbered) (rw zero-add n);
+  ordered = ordered-behind (o .inside) t (s .ordered) g;
+  numbered = numbered-behind (isArray (embedded (o .nest))) 0 (o .inside) t (s .numbered) (rw zero-add n);
   shallow = shallow-behind level (o .inside) t (s .shallow) h;
 }
 
-sounds-with : (o : Open) (around : List Open) (t : Elements) → Sounds (o ∷ around) → Good t → Numbered (isArray (o .nest)) (count (o .inside)) t
+sounds-with : (o : Open) (around : List Open) (t : Elements) → Sounds (o ∷ around) → InOrder t → Numbered (isArray (embedded (o .nest))) (count (o .inside)) t
     → Shallow (length around) t → Sounds (with o t ∷ around)
 unfolding Sounds
 sounds-with o [] t s g n h = (s .0, sound-with o 0 t (s .1) g n h)
@@ -79,7 +79,7 @@ sounds-with o (p ∷ around) t s g n h = (s .0, (sound-with o (length (p ∷ aro
 
 -- the key of an accepted element
 
-key-valid : (n : Nest) (c : ℕ) (key : List ℕ) → keyPasses (kindFor n (c + 0)) key ≡ true → validCstr (cond (isArray n) (decimal c) key) ≡ true
+key-valid : (n : Embedded) (c : ℕ) (key : List ℕ) → keyPasses (kindFor n (c + 0)) key ≡ true → validCstr (cond (isArray (embedded n)) (decimal c) key) ≡ true
 unfolding keyPasses
 key-valid document c key e = e
 key-valid array c key e = decimal-valid c
@@ -104,20 +104,20 @@ append-sounds d e o around key v h s f q =
     let k = accepted-key d e o around 0 (row v .tag) key (row v .good) (row v .value) h a in
     sounds-with o around (leaf (keyFor o key) v none) s (k .valid, (a .valued, (f, tt))) (k .numbered, tt) (k .low, tt)
 
-open-sounds : (d e : Desk) (o : Open) (around : List Open) (n : Nest) (key : List ℕ) → Holds d (o ∷ around) → Sounds (o ∷ around)
+open-sounds : (d e : Desk) (o : Open) (around : List Open) (n : Embedded) (key : List ℕ) → Holds d (o ∷ around) → Sounds (o ∷ around)
     → answer (openNest n key) d ≡ gives e → Sounds (opened n (keyFor o key) none ∷ o ∷ around)
 unfolding answer Sounds
 open-sounds d e o around n key h s q =
     let p = opened-says d n key e q in
-    let k = accepted-key d (p .between) o around 1 (nestTag n) key true (bytes32 5) h (p .element) in
-    (k, (record { good = tt; numbered = tt; shallow = tt }, s))
+    let k = accepted-key d (p .between) o around 1 (nestTag (embedded n)) key true (bytes32 5) h (p .element) in
+    (k, (record { ordered = tt; numbered = tt; shallow = tt }, s))
 
-close-sounds : (o p : Open) (around : List Open) → Sounds (o ∷ p ∷ around) → Sounds (with p (nest (o .nest) (o .key) (o .inside) none) ∷ around)
+close-sounds : (o p : Open) (around : List Open) → Sounds (o ∷ p ∷ around) → Sounds (with p (nest (embedded (o .nest)) (o .key) (o .inside) none) ∷ around)
 unfolding Sounds
 close-sounds o p around s =
     let k = s .0 in
     let i = s .1 .0 in
-    sounds-with p around (nest (o .nest) (o .key) (o .inside) none) (s .1 .1) (k .valid, (i .good, tt)) (k .numbered, (i .numbered, tt))
+    sounds-with p around (nest (embedded (o .nest)) (o .key) (o .inside) none) (s .1 .1) (k .valid, (refl, (i .ordered, tt))) (k .numbered, (i .numbered, tt))
     (k .low, (rw add-one (i .shallow), tt))
 
 -- what must be open: nothing for the top, with nothing used; something for every other call
@@ -162,19 +162,19 @@ module _ (buffer : List ℕ) where
   close-reads d e o h s q =
       let c = close-top d e o h q in
       let t = o .inside in
-      let means = means-back t (s .1 .good) (c .small) in
+      let means = means-back t (record { ordered = s .1 .ordered; fits = c .small }) in
       record {
         closed = c .closed;
         bytes = c .bytes;
         means = means;
         numbered = subst (λ (b : Bool). Numbered b 0 t) (s .0) (s .1 .numbered);
-        passes = means-passes (treeBytes t) t means (s .1 .shallow);
+        passes = means-passes false (treeBytes t) t means (s .1 .shallow) (plain-asked false 0 t);
       }
 
   top-kept : (d e : Desk) → d ≡ desk fresh buffer → answer openTop d ≡ gives e → Kept e (building (opened document [] none) [])
   unfolding Sounds
   top-kept d e f q =
-      (top-holds buffer e (subst (λ (x : Desk). answer openTop x ≡ gives e) f q), (refl, record { good = tt; numbered = tt; shallow = tt }))
+      (top-holds buffer e (subst (λ (x : Desk). answer openTop x ≡ gives e) f q), (refl, record { ordered = tt; numbered = tt; shallow = tt }))
 
   begun-closed : (d : Desk) → d ≡ desk fresh buffer → depth (d .state) ≡ 0
   begun-closed d f = ap (λ (x : Desk). depth (x .state)) f ∙ fresh-closed

@@ -5,7 +5,8 @@ use mathlib.Core.Path.{_≡_, refl, sym, ap, _∙_}
 use mathlib.Core.List.{List, [], _∷_, _++_, append-assoc, append-nil}
 use native.Mathlib.Omega.{arith}
 use lib.ListN.{length, length-append}
-use Rattle.bson.specs.Grammar.{bytes32, Item, row, Nest, nestTag, Elements, none, leaf, nest, elementBytes, listBytes, treeBytes}
+use Rattle.bson.specs.Grammar.{bytes32, Item, row, Embedded, embedded, nestTag, nestBytes, Elements, none, leaf, nest}
+use Rattle.bson.specs.Grammar.{elementBytes, listBytes, treeBytes}
 use Rattle.theorems.specs.ReadBack.{Open, opened, behind, count, with}
 use Rattle.laws.proofs.GrammarLaws.{length-bytes32, length-document, length-element}
 use Rattle.theorems.proofs.Holds.{shown, startOf}
@@ -34,7 +35,7 @@ list-behind (leaf key v rest) more =
     let e = elementBytes (row v .tag) key (row v .value) in
     ap (λ (l : List ℕ). e ++ l) (list-behind rest more) ∙ sym (append-assoc e (listBytes rest) (listBytes more))
 list-behind (nest n key inner rest) more =
-    let e = elementBytes (nestTag n) key (treeBytes inner) in
+    let e = elementBytes (nestTag n) key (nestBytes n (treeBytes inner)) in
     ap (λ (l : List ℕ). e ++ l) (list-behind rest more) ∙ sym (append-assoc e (listBytes rest) (listBytes more))
 
 -- the bytes of elements
@@ -43,9 +44,9 @@ pub leaf-bytes : (key : List ℕ) (v : Item) → listBytes (leaf key v none) ≡
 unfolding listBytes
 leaf-bytes key v = append-nil (elementBytes (row v .tag) key (row v .value))
 
-nest-bytes : (n : Nest) (key : List ℕ) (inner : Elements) → listBytes (nest n key inner none) ≡ elementBytes (nestTag n) key (treeBytes inner)
+nest-bytes : (n : Embedded) (key : List ℕ) (inner : Elements) → listBytes (nest (embedded n) key inner none) ≡ elementBytes (nestTag (embedded n)) key (treeBytes inner)
 unfolding listBytes
-nest-bytes n key inner = append-nil (elementBytes (nestTag n) key (treeBytes inner))
+nest-bytes n key inner = append-nil (elementBytes (nestTag (embedded n)) key (treeBytes inner))
 
 pub none-length : length (listBytes none) ≡ 0
 unfolding listBytes
@@ -56,18 +57,22 @@ pub leaf-length : (key : List ℕ) (v : Item) (rest : Elements)
 unfolding listBytes
 leaf-length key v rest = length-append (elementBytes (row v .tag) key (row v .value)) (listBytes rest)
 
-pub nest-length : (n : Nest) (key : List ℕ) (inner rest : Elements)
-    → length (listBytes (nest n key inner rest)) ≡ 7 + length key + length (listBytes inner) + length (listBytes rest)
+pub nest-length : (n : Embedded) (key : List ℕ) (inner rest : Elements)
+    → length (listBytes (nest (embedded n) key inner rest)) ≡ 7 + length key + length (listBytes inner) + length (listBytes rest)
 unfolding listBytes
 nest-length n key inner rest =
-    let e = elementBytes (nestTag n) key (treeBytes inner) in
-    omega (arith, length-append e (listBytes rest), length-element (nestTag n) key (treeBytes inner), length-document (listBytes inner))
+    let e = elementBytes (nestTag (embedded n)) key (treeBytes inner) in
+    omega (arith, length-append e (listBytes rest), length-element (nestTag (embedded n)) key (treeBytes inner), length-document (listBytes inner))
 
 pub count-within : (t : Elements) → count t ≤ length (listBytes t)
+unfolding listBytes
 count-within none = omega arith
 count-within (leaf key v rest) =
     omega (arith, leaf-length key v rest, length-element (row v .tag) key (row v .value), count-within rest)
-count-within (nest n key inner rest) = omega (arith, nest-length n key inner rest, count-within rest)
+count-within (nest n key inner rest) =
+    let value = nestBytes n (treeBytes inner) in
+    let e = elementBytes (nestTag n) key value in
+    omega (arith, length-append e (listBytes rest), length-element (nestTag n) key value, count-within rest)
 
 -- the bytes of open documents
 
@@ -81,10 +86,10 @@ unfolding startOf
 start-with o [] t = refl
 start-with o (p ∷ around) t = refl
 
-pub shown-opened : (n : Nest) (key : List ℕ) (o : Open) (around : List Open)
-    → shown (opened n key none ∷ o ∷ around) ≡ shown (o ∷ around) ++ elementBytes (nestTag n) key (bytes32 5)
+pub shown-opened : (n : Embedded) (key : List ℕ) (o : Open) (around : List Open)
+    → shown (opened n key none ∷ o ∷ around) ≡ shown (o ∷ around) ++ elementBytes (nestTag (embedded n)) key (bytes32 5)
 unfolding shown listBytes
-shown-opened n key o around = ap (λ (l : List ℕ). shown (o ∷ around) ++ l) (append-nil (elementBytes (nestTag n) key (bytes32 5)))
+shown-opened n key o around = ap (λ (l : List ℕ). shown (o ∷ around) ++ l) (append-nil (elementBytes (nestTag (embedded n)) key (bytes32 5)))
 
 element-front : (tag : ℕ) (key value : List ℕ) → elementBytes tag key value ≡ elementBytes tag key [] ++ value
 unfolding elementBytes
@@ -93,23 +98,23 @@ element-front tag key value = ap (λ (l : List ℕ). tag ∷ l) (sym (append-ass
 -- those in front of the innermost's length
 unfoldable pub front : Open → List Open → List ℕ
 front o [] = []
-front o (p ∷ around) = shown (p ∷ around) ++ elementBytes (nestTag (o .nest)) (o .key) []
+front o (p ∷ around) = shown (p ∷ around) ++ elementBytes (nestTag (embedded (o .nest))) (o .key) []
 
 pub shown-front : (o : Open) (around : List Open) → shown (o ∷ around) ≡ front o around ++ (bytes32 5 ++ listBytes (o .inside))
 unfolding shown front
 shown-front o [] = refl
-shown-front o (p ∷ around) = rw (element-front (nestTag (o .nest)) (o .key) (bytes32 5)) (simp (append-assoc))
+shown-front o (p ∷ around) = rw (element-front (nestTag (embedded (o .nest))) (o .key) (bytes32 5)) (simp (append-assoc))
 
 pub start-front : (o : Open) (around : List Open) → startOf (o ∷ around) ≡ length (front o around)
 unfolding startOf front
 start-front o [] = refl
-start-front o (p ∷ around) = sym (length-append (shown (p ∷ around)) (elementBytes (nestTag (o .nest)) (o .key) []))
+start-front o (p ∷ around) = sym (length-append (shown (p ∷ around)) (elementBytes (nestTag (embedded (o .nest))) (o .key) []))
 
 pub front-tree : (o p : Open) (around : List Open)
-    → front o (p ∷ around) ++ treeBytes (o .inside) ≡ shown (p ∷ around) ++ listBytes (nest (o .nest) (o .key) (o .inside) none)
+    → front o (p ∷ around) ++ treeBytes (o .inside) ≡ shown (p ∷ around) ++ listBytes (nest (embedded (o .nest)) (o .key) (o .inside) none)
 unfolding front
 front-tree o p around =
-    rw (nest-bytes (o .nest) (o .key) (o .inside), element-front (nestTag (o .nest)) (o .key) (treeBytes (o .inside))) (simp (append-assoc))
+    rw (nest-bytes (o .nest) (o .key) (o .inside), element-front (nestTag (embedded (o .nest))) (o .key) (treeBytes (o .inside))) (simp (append-assoc))
 
 -- how many they are: the innermost's start, its length and its elements
 pub shown-length : (o : Open) (around : List Open) → length (shown (o ∷ around)) ≡ startOf (o ∷ around) + 4 + length (listBytes (o .inside))
@@ -120,7 +125,7 @@ shown-length o around =
 
 pub start-nested : (o p : Open) (around : List Open) → startOf (o ∷ p ∷ around) ≡ length (shown (p ∷ around)) + (2 + length (o .key))
 unfolding startOf
-start-nested o p around = omega (arith, length-element (nestTag (o .nest)) (o .key) [])
+start-nested o p around = omega (arith, length-element (nestTag (embedded (o .nest))) (o .key) [])
 
 pub shown-top : (o : Open) → length (shown (o ∷ [])) ≡ 4 + length (listBytes (o .inside))
 unfolding startOf

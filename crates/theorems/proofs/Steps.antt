@@ -16,7 +16,7 @@ use Rattle.bson.specs.Framing.{valueSize}
 use Rattle.bson.specs.Step.{terminator, admitted, cursor, Element, past, element, yield, step}
 use Rattle.bson.specs.Value.{Value, valueIn, valueOf, elementAt, readAt}
 use Rattle.bson.specs.Grammar.{elementBytes}
-use Rattle.bson.specs.Meaning.{Yields}
+use Rattle.bson.specs.Meaning.{Holding, holding, Yields}
 use Rattle.laws.proofs.AdvanceLaws.{step-inside}
 use Rattle.laws.proofs.GrammarLaws.{length-element, cstring-of}
 use Rattle.theorems.proofs.Items.{bytes-here, drop-behind}
@@ -67,13 +67,15 @@ module _ (s : List ℕ) (offset tag : ℕ) (key value back : List ℕ) (here : d
           let n : offset ≡ terminator s → ⊥ = λ e. omega arith in
           step-inside s (length s) admits offset (rw (le-leb _ _ low, le-leb _ _ l)) (ne-eqb _ _ n) ∙ rw element-here
 
-      pub yields-here : (v : Value) → valueIn s tag (part (offset + 1 + length key + 1) (length value)) ≡ gives v
-          → Yields s offset key tag v (elementHere offset tag key value)
+      pub yields-here : (v : Value) (h : Holding) → valueIn s tag (part (offset + 1 + length key + 1) (length value)) ≡ gives v → holding s v ≡ h
+          → Yields s offset key tag h (elementHere offset tag key value)
       unfolding readAt elementAt valueOf
-      yields-here v e =
+      yields-here v h e k =
           record {
             steps = step-here;
             keyed = bytes-here s (offset + 1) key _ key-here (length key) refl;
             tagged = refl;
+            value = v;
             reads = rw (step-here, e);
+            holds = k;
           }

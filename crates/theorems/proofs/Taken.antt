@@ -8,7 +8,7 @@ use lib.ListN.{length}
 use borrow.Author.Tests.{le-leb}
 use Rattle.bson.specs.Answer.{gives}
 use Rattle.bson.specs.Cstring.{validCstr}
-use Rattle.bson.specs.Grammar.{bytes32, Item, row, Nest, document, array, nestTag, elementBytes}
+use Rattle.bson.specs.Grammar.{bytes32, Item, row, Embedded, document, array, embedded, nestTag, elementBytes}
 use Rattle.bson.specs.Writer.{State, fresh, used, depth, mark, kindOf, kindHolds, stand, possible, Desk, desk, roomOf, innermost}
 use Rattle.bson.specs.Writer.{keyPasses, openTop, close, append, openNest, answer}
 use Rattle.laws.proofs.GrammarLaws.{length-bytes32, length-element}
@@ -21,7 +21,7 @@ use Rattle.theorems.proofs.Trace.{last-is, key-in}
 
 -- no state of open documents is impossible
 
-kind-holds : (most : ℕ) (n : Nest) (c : ℕ) → c ≤ most → kindHolds most (kindFor n c) ≡ true
+kind-holds : (most : ℕ) (n : Embedded) (c : ℕ) → c ≤ most → kindHolds most (kindFor n c) ≡ true
 unfolding kindHolds
 kind-holds most document c h = refl
 kind-holds most array c h = le-leb c most h
@@ -45,13 +45,13 @@ module _ (w : State) where
       tied-stands begun o (p ∷ around) end t h g
       (tied-stand 1 p around (startOf (o ∷ p ∷ around)) (t .1 .1) (omega (arith, start-nested o p around)) (omega arith))
 
-key-passes : (n : Nest) (c : ℕ) (key : List ℕ) → validCstr key ≡ true → keyPasses (kindFor n c) key ≡ true
+key-passes : (n : Embedded) (c : ℕ) (key : List ℕ) → validCstr key ≡ true → keyPasses (kindFor n c) key ≡ true
 unfolding keyPasses
 key-passes document c key v = v
 key-passes array c key v = refl
 
 -- an opening is taken where its element is
-opening-taken : (d : Desk) (n : Nest) (key : List ℕ) (e : Desk) → Appended d 1 (nestTag n) key true (bytes32 5) e
+opening-taken : (d : Desk) (n : Embedded) (key : List ℕ) (e : Desk) → Appended d 1 (nestTag (embedded n)) key true (bytes32 5) e
     → (f : Desk) × (answer (openNest n key) d ≡ gives f)
 unfolding answer
 opening-taken d n key e a = (_, opened-gives d n key _ (record { between = e; element = a; is = refl }))
@@ -95,11 +95,11 @@ module _ (d : Desk) (o : Open) (around : List Open) (h : Holds d (o ∷ around))
       let (e, a) = element-taken 0 (row v .tag) key (row v .good) (row v .value) k low valid good (omega arith) in
       (e, appended-gives d 0 (row v .tag) key (row v .good) (row v .value) e a)
 
-  pub nest-taken : (n : Nest) (key : List ℕ) → keyFor o key ≡ key → length around ≤ 200 → validCstr key ≡ true
+  pub nest-taken : (n : Embedded) (key : List ℕ) → keyFor o key ≡ key → length around ≤ 200 → validCstr key ≡ true
       → used (d .state) + (6 + length key) + (suc (length around) + 1) ≤ roomOf d → (e : Desk) × (answer (openNest n key) d ≡ gives e)
   nest-taken n key k low valid fits =
-      let l = length-element (nestTag n) key (bytes32 5) in
-      let (e, a) = element-taken 1 (nestTag n) key true (bytes32 5) k low valid refl (omega (arith, length-bytes32 5)) in
+      let l = length-element (nestTag (embedded n)) key (bytes32 5) in
+      let (e, a) = element-taken 1 (nestTag (embedded n)) key true (bytes32 5) k low valid refl (omega (arith, length-bytes32 5)) in
       opening-taken d n key e a
 
   pub close-taken : length around ≤ 201 → used (d .state) + suc (length around) ≤ roomOf d → (e : Desk) × (answer close d ≡ gives e)

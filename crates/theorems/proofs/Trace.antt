@@ -11,7 +11,8 @@ use lib.Seq.{getD-set-same, getD-set-other}
 use Rattle.bson.specs.Answer.{gives}
 use Rattle.bson.specs.Decimal.{decimal}
 use Rattle.bson.specs.Output.{put}
-use Rattle.bson.specs.Grammar.{bytes32, Item, row, Nest, document, array, nestTag, isArray, Elements, none, leaf, nest, elementBytes}
+use Rattle.bson.specs.Grammar.{bytes32, Item, row, Embedded, document, array, embedded, nestTag, isArray, Elements, none, leaf, nest}
+use Rattle.bson.specs.Grammar.{elementBytes}
 use Rattle.bson.specs.Grammar.{documentOf, listBytes, treeBytes}
 use Rattle.bson.specs.Writer.{State, fresh, used, depth, startAt, start, markAt, mark, Kind, inArray, kindOf, markOf, Desk, desk, roomOf, innermost, popped}
 use Rattle.bson.specs.Writer.{keyIn, grown, pushed, close, openTop, append, openNest, answer}
@@ -47,13 +48,13 @@ tied-with w o around t one h =
     let c : count (o .inside) + 1 ≡ count (behind (o .inside) t) + 0 = omega (arith, count-behind (o .inside) t) in
     (h .0 ∙ sym (start-with o around t), (h .1 .0 ∙ ap (λ (x : ℕ). gives (kindFor (o .nest) x)) c, h .1 .1))
 
-kind-opened : (n : Nest) → kindOf (markOf n) ≡ gives (kindFor n 0)
+kind-opened : (n : Embedded) → kindOf (markOf n) ≡ gives (kindFor n 0)
 unfolding kindOf
 kind-opened document = refl
 kind-opened array = refl
 
 -- one document more
-tied-pushed : (w : State) (os : List Open) (n : Nest) (key : List ℕ) → length w ≡ 406 → depth w ≡ length os → depth w ≤ 201
+tied-pushed : (w : State) (os : List Open) (n : Embedded) (key : List ℕ) → length w ≡ 406 → depth w ≡ length os → depth w ≤ 201
     → used w - 4 ≡ startOf (opened n key none ∷ os) → Tied w 1 os → Tied (pushed w (markOf n)) 0 (opened n key none ∷ os)
 unfolding Tied
 tied-pushed w os n key words deep low s t =
@@ -74,12 +75,12 @@ tied-popped w os words t =
     (λ i l. popped-other w words (markAt i) (omega arith))
     t
 
-once-more : (n : Nest) (c : ℕ) → onceMore (kindFor n (c + 0)) ≡ kindFor n (c + 1)
+once-more : (n : Embedded) (c : ℕ) → onceMore (kindFor n (c + 0)) ≡ kindFor n (c + 1)
 once-more document c = refl
 once-more array c = ap inArray (omega arith)
 
 -- the key that the writer makes
-pub key-in : (n : Nest) (c : ℕ) (key : List ℕ) → keyIn (kindFor n (c + 0)) key ≡ cond (isArray n) (decimal c) key
+pub key-in : (n : Embedded) (c : ℕ) (key : List ℕ) → keyIn (kindFor n (c + 0)) key ≡ cond (isArray (embedded n)) (decimal c) key
 unfolding keyIn
 key-in document c key = refl
 key-in array c key = ap decimal (add-zero c)
@@ -158,12 +159,12 @@ append-holds d e o around key v h q =
     let b = element-begun d o around h 0 (row v .tag) key (row v .good) (row v .value) e a in
     element-counted e o around (leaf (keyFor o key) v none) refl (rw (leaf-bytes (keyFor o key) v) b)
 
-pub open-holds : (d e : Desk) (o : Open) (around : List Open) (n : Nest) (key : List ℕ) → Holds d (o ∷ around)
+pub open-holds : (d e : Desk) (o : Open) (around : List Open) (n : Embedded) (key : List ℕ) → Holds d (o ∷ around)
     → answer (openNest n key) d ≡ gives e → Holds e (opened n (keyFor o key) none ∷ o ∷ around)
 unfolding answer
 open-holds d e o around n key h q =
     let p = opened-says d n key e q in
-    let b = element-begun d o around h 1 (nestTag n) key true (bytes32 5) (p .between) (p .element) in
+    let b = element-begun d o around h 1 (nestTag (embedded n)) key true (bytes32 5) (p .between) (p .element) in
     let w = p .between .state in
     let m = markOf n in
     let s = sym (shown-opened n (keyFor o key) o around) in
@@ -254,9 +255,9 @@ close-begun d e o around h q =
     })
 
 pub close-holds : (d e : Desk) (o p : Open) (around : List Open) → Holds d (o ∷ p ∷ around) → answer close d ≡ gives e
-    → Holds e (with p (nest (o .nest) (o .key) (o .inside) none) ∷ around)
+    → Holds e (with p (nest (embedded (o .nest)) (o .key) (o .inside) none) ∷ around)
 close-holds d e o p around h q =
-    element-counted e p around (nest (o .nest) (o .key) (o .inside) none) refl (rw (← front-tree o p around) (close-begun d e o (p ∷ around) h q))
+    element-counted e p around (nest (embedded (o .nest)) (o .key) (o .inside) none) refl (rw (← front-tree o p around) (close-begun d e o (p ∷ around) h q))
 
 -- the top, closed
 pub record Ended (e : Desk) (t : Elements) : Type 0 where

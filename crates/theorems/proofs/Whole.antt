@@ -1,6 +1,6 @@
 -- Which slices the whole check passes, plain and strict (document 01, "The whole check"; demand 3). Assumes nothing.
-use Prim.Native.Nat.{ℕ, zero, suc, _+_, _-_, _<_}
-use mathlib.Core.Path.{_≡_, refl, sym, ap, subst, _∙_}
+use Prim.Native.Nat.{ℕ, zero, suc, _+_, _<_}
+use mathlib.Core.Path.{_≡_, refl, sym, ap, _∙_}
 use mathlib.Core.List.{List}
 use mathlib.Core.Bool.{Bool, true, false}
 use mathlib.Core.Logic.{_↔_}
@@ -8,7 +8,7 @@ use native.Mathlib.Omega.{arith}
 use lib.ListN.{length}
 use Rattle.bson.specs.Answer.{Answer, gives, refuses}
 use Rattle.bson.specs.Bytes.{bytes}
-use Rattle.bson.specs.Step.{admitted, cursor, Element, past, Step, yield, end, step}
+use Rattle.bson.specs.Step.{admitted, cursor, Element, Step, yield, end, step}
 use Rattle.bson.specs.Value.{Value, valueOf}
 use Rattle.bson.specs.Level.{Opening, closed, opens, opening, outermost}
 use Rattle.bson.specs.Check.{keyPasses, check}
@@ -19,7 +19,8 @@ use Rattle.laws.proofs.StepLaws.{step-admits, step-yields}
 use Rattle.laws.proofs.AdvanceLaws.{step-ends, ended-at}
 use Rattle.laws.proofs.CheckLaws.{walk-eq}
 use Rattle.theorems.proofs.Spots.{walkAt, left, Inner, plain, deep, Opened, Walked, ended, more, walked-says, walked-gives}
-use Rattle.theorems.proofs.Spots.{read-yielded, read-says, opens-deeper, one-element, Onward, accepted-onward, comes-accepted}
+use Rattle.theorems.proofs.Spots.{read-yielded, read-says, opens-deeper, Onward, accepted-onward, comes-accepted}
+use Rattle.theorems.proofs.First.{ends-next}
 
 -- the key test of a check holds at every reachable value; the plain check's holds always
 abbrev KeysPass : Bool → List ℕ → Type 0
@@ -61,11 +62,7 @@ module _ (strict : Bool) (s : List ℕ) (n : ℕ) (passed : check strict s ≡ g
   passed-keys : KeysPass strict s
   passed-keys σ x = reached σ x .1 .opened .visited .key
 
--- iteration that comes to the terminator does so from the next offset too, and is not refused
-ends-next : (d : List ℕ) (offset : ℕ) (e : Element) → step d (cursor offset false) ≡ gives (yield e) → Ends d offset → Ends d (past e)
-ends-next d offset e y (here q) = let z = step-yields d (cursor offset false) e y in absurd (omega arith)
-ends-next d offset e y (later f x r) = subst (λ (g : Element). Ends d (past g)) (one-element _ f e x y) r
-
+-- iteration that comes to the terminator is not refused
 ends-unrefused : (d : List ℕ) (offset m n p : ℕ) → admitted d ≡ gives m → Ends d offset → step d (cursor offset false) ≡ refuses n p → ⊥
 ends-unrefused d offset m n p a (here q) x = never (sym x ∙ step-ends d m a offset .1 q)
 ends-unrefused d offset m n p a (later e y r) x = never (sym x ∙ y)

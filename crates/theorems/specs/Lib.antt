@@ -1,2 +1,3 @@
 pub mod Demand3
+pub mod EveryByte
 pub mod ReadBack

@@ -7,17 +7,18 @@ use lib.ListN.{length, take}
 use Rattle.bson.specs.Answer.{Answer, gives, refuses}
 use Rattle.bson.specs.Check.{check}
 use Rattle.bson.specs.Decimal.{decimal}
-use Rattle.bson.specs.Grammar.{Nest, document, isArray, Elements, none, leaf, nest, treeBytes, size, Shallow, Fitting, Good, Numbered}
+use Rattle.bson.specs.Grammar.{Embedded, document, embedded, scope, isArray, Elements, none, leaf, nest}
+use Rattle.bson.specs.Grammar.{treeBytes, size, Shallow, Fitting, Good, Numbered}
 use Rattle.bson.specs.Meaning.{Means}
 use Rattle.bson.specs.Writer.{fresh, used, depth, Desk, desk, Call, openTop, close, append, openNest, answer}
 
 -- a document that is open: its nest and its key in the one around it, and the elements in it so far
 pub record Open : Type 0 where
-  pub nest : Nest
+  pub nest : Embedded
   pub key : List ℕ
   pub inside : Elements
 
-abbrev pub opened : Nest → List ℕ → Elements → Open
+abbrev pub opened : Embedded → List ℕ → Elements → Open
 opened n key inside = record { nest = n; key = key; inside = inside }
 
 -- the tree of the elements given: not begun, with its open documents, innermost first, or closed
@@ -42,7 +43,7 @@ with o t = opened (o .nest) (o .key) (behind (o .inside) t)
 
 -- "inside an array it makes the keys itself, 0, 1, 2 on in decimal"
 abbrev pub keyFor : Open → List ℕ → List ℕ
-keyFor o key = cond (isArray (o .nest)) (decimal (count (o .inside))) key
+keyFor o key = cond (isArray (embedded (o .nest))) (decimal (count (o .inside))) key
 
 -- what an accepted call makes of the tree
 abbrev pub after : Call → Building → Building
@@ -50,7 +51,7 @@ after openTop unopened = building (opened document [] none) []
 after (append key v) (building o around) = building (with o (leaf (keyFor o key) v none)) around
 after (openNest n key) (building o around) = building (opened n (keyFor o key) none) (o ∷ around)
 after close (building o []) = built (o .inside)
-after close (building o (p ∷ around)) = building (with p (nest (o .nest) (o .key) (o .inside) none)) around
+after close (building o (p ∷ around)) = building (with p (nest (embedded (o .nest)) (o .key) (o .inside) none)) around
 after openTop (building o around) = building o around
 after c (built t) = built t
 after (append key v) unopened = unopened
@@ -111,12 +112,19 @@ abbrev pub WriterReadsBack : Type 0
 WriterReadsBack = (buffer : List ℕ) (calls : List Call) → Typed calls
     → Stands buffer (run calls (begin buffer) .left) (run calls (begin buffer) .tree)
 
--- a tree that the writer can build: its keys as the writer makes them, none deeper than 200, its bytes within the room
+-- a tree without code with scope, which the writer does not make
+abbrev pub Unscoped : Elements → Type 0
+Unscoped none = Unit
+Unscoped (leaf key v rest) = Unscoped rest
+Unscoped (nest (embedded n) key inner rest) = Unscoped inner × Unscoped rest
+Unscoped (nest (scope t) key inner rest) = ⊥
+
+-- a tree that the writer can build: its keys as the writer makes them, none deeper than 200
 pub record Writable (t : Elements) : Type 0 where
   pub good : Good t
+  pub unscoped : Unscoped t
   pub numbered : Numbered false 0 t
   pub shallow : Shallow 0 t
-  pub fits : length (treeBytes t) ≤ 2147483647
 
 -- and by which calls, all answered 0, in a buffer of just its size
 pub record Builds (t : Elements) (buffer : List ℕ) : Type 0 where
