@@ -20,5 +20,6 @@ pub mod Join
 pub mod Report
 pub mod Vectors
 pub mod Decided
+pub mod GrammarPoints
 pub mod WriterPoints
 pub mod JoinPoints
