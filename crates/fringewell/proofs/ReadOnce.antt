@@ -7,7 +7,8 @@ use native.Mathlib.Omega.{arith}
 use Rattle.bson.specs.Answer.{Answer, gives, refuses}
 use Rattle.bson.specs.Lookup.{Found, get, getWith}
 use Rattle.bson.specs.Step.{Cursor, cursor, Element, Step, yield, end, step, after}
-use Rattle.bson.specs.Value.{valueOf, elementAt, readAt}
+use Rattle.bson.specs.Value.{valueOf, readAt}
+use Rattle.laws.proofs.ReadLaws.{read-step}
 use Rattle.laws.proofs.LookupLaws.{get-read, get-with-says}
 use Rattle.laws.proofs.StepLaws.{step-yields, yields-step}
 use Rattle.theorems.proofs.Refusals.{Numbered, numbered, get-in, get-with-in}
@@ -18,17 +19,13 @@ use Rattle.fringewell.specs.Given.{given}
 use Rattle.fringewell.specs.Left.{steps}
 
 module _ (s : List ℕ) where
-  pub read-at-its-place : (c : Cursor) (e : Element) → step s c ≡ gives (yield e) → readAt s (e .place) ≡ valueOf s e
-  unfolding readAt elementAt
-  read-at-its-place c e x = rw (yields-step s c e (step-yields s c e x))
-
   -- what `fringewell_value_of` promises of these numbers is what `fringewell_read` promises at this place
   abbrev pub ReadOnce : (place tag offset size : ℕ) → Type 0
   ReadOnce place tag offset size = valueRead (valueOf s (given place tag offset size)) ≡ valueRead (readAt s place)
 
   yielded-once : (c : Cursor) (e : Element) → step s c ≡ gives (yield e) → ReadOnce (e .place) (e .tag) (e .value .offset) (e .value .size)
   unfolding valueOf
-  yielded-once c e x = sym (ap valueRead (read-at-its-place c e x))
+  yielded-once c e x = sym (ap valueRead (read-step s (e .place) e (yields-step s c e (step-yields s c e x))))
 
   -- of the numbers of a step, where the cursor behind it has not ended
   abbrev pub StepReadOnce : StepNumbers → Type 0

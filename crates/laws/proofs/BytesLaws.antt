@@ -6,10 +6,10 @@ use mathlib.Core.Bool.{true, false, true≢false}
 use native.Mathlib.Numerals.{add-one}
 use native.Mathlib.Omega.{arith}
 use lib.ListN.{length, getD, take, drop, drop-of-length-le, length-take, length-drop}
-use lib.Seq.{drop-cons, length-take-le, take-add, drop-at, drop-drop}
+use lib.Seq.{drop-cons, length-take-le, take-take, take-add, drop-at, drop-drop}
 use lib.Dec.{eqb}
 use borrow.Author.Tests.{eq-eqb, ne-eqb, eqb-true}
-use Rattle.bson.specs.Bytes.{Part, bytes, trim, same}
+use Rattle.bson.specs.Bytes.{Part, part, bytes, trim, same}
 use Rattle.laws.proofs.Common.{split}
 
 pub same-length : (a b : List ℕ) → (length a ≡ length b → ⊥) → same a b ≡ false
@@ -58,3 +58,14 @@ bytes-trim s p front h k =
     ap (drop front) (take-add front m l) ∙ drop-at (take front l) (take m (drop front l)) front (length-take-le front l j) in
     let i : p .size - (front + 0) ≡ m = omega arith in
     rw (i, ← drop-drop front (p .offset) s) (sym (ap (λ (x : ℕ). drop front (take x l)) n ∙ d))
+
+-- a part of the rest of a slice, and of a part's bytes, is one of the slice
+pub bytes-drop : (s : List ℕ) (offset from size : ℕ) → bytes s (part (offset + from) size) ≡ bytes (drop offset s) (part from size)
+unfolding bytes
+bytes-drop s offset from size = ap (take size) (sym (drop-drop from offset s))
+
+pub bytes-within : (s : List ℕ) (p : Part) (from size : ℕ) → p .offset + p .size ≤ length s → from + size ≤ p .size
+    → bytes s (part (p .offset + from) size) ≡ bytes (bytes s p) (part from size)
+unfolding bytes
+bytes-within s p from size h k =
+    rw (← bytes-trim s p from h (omega arith)) (sym (take-take size (p .size - (from + 0)) (drop (p .offset + from) s) (omega arith)))

@@ -1,7 +1,7 @@
 -- A size that framing gives fits the rest of the slice, and is no less than its class asks (document 01, "Admission and one step").
 -- Assumes nothing.
 use Prim.Native.Nat.{ℕ, _+_, _-_, _≤_, _<_}
-use mathlib.Core.Path.{_≡_, refl, sym}
+use mathlib.Core.Path.{_≡_, refl, sym, ap, _∙_}
 use mathlib.Core.List.{List}
 use native.Mathlib.Omega.{arith}
 use lib.ListN.{length, getD, drop, length-drop}
@@ -117,6 +117,17 @@ pattern-options-fit v r e =
     let (o, u, g) = then-gives (cstring (drop (p + 1) v)) _ h in
     let i : _≡_ {A = Part × Part} (part 0 p, part (p + 1) o) r = gives-injective g in
     rw (← i) (refl, refl, omega (arith, cstring-below v p q, cstring-below (drop (p + 1) v) o u, length-drop (p + 1) v))
+
+-- two texts, each with its zero
+pub regex-is : (v : List ℕ) (n : ℕ) → regexSize v ≡ gives n
+    → (p : ℕ) × (o : ℕ) × (cstring v ≡ gives p) × (cstring (drop (p + 1) v) ≡ gives o) × (n ≡ p + 1 + (o + 1))
+unfolding regexSize patternOptions
+regex-is v n e =
+    let (r, q, h) = then-gives (patternOptions v) _ e in
+    let (p, x, q1) = then-gives (cstring v) _ q in
+    let (o, y, q2) = then-gives (cstring (drop (p + 1) v)) _ q1 in
+    let i : _≡_ {A = Part × Part} (part 0 p, part (p + 1) o) r = gives-injective q2 in
+    (p, o, x, y, sym (ap (λ (z : Part × Part). z .0 .size + 1 + (z .1 .size + 1)) i ∙ gives-injective h))
 
 pub regex-fits : (v : List ℕ) (n : ℕ) → regexSize v ≡ gives n → n ≤ length v
 unfolding regexSize

@@ -7,6 +7,7 @@ pub mod Determined
 pub mod FramingLaws
 pub mod LookupLaws
 pub mod OpenLaws
+pub mod ReadLaws
 pub mod PartLaws
 pub mod StepLaws
 pub mod AdvanceLaws
@@ -15,6 +16,7 @@ pub mod Utf8Laws
 pub mod OutputLaws
 pub mod DecimalLaws
 pub mod GrammarLaws
+pub mod GrammarBack
 pub mod WriterWords
 pub mod WriterLaws
 pub mod WriterRefusals

@@ -14,9 +14,10 @@ use Rattle.bson.specs.Tags.{ElementType, Boolean, Int32, Double, Int64, DateTim
 use Rattle.bson.specs.Framing.{inFront}
 use Rattle.bson.specs.Step.{Cursor, cursor, Element, past, yield, end, step, Iteration, ended, broken, more, onward, iterate}
 use Rattle.bson.specs.Value.{Leaf, leaf, boolean, int32, int64, dateTime, double, timestamp, asLeaf, bool, timestampOf}
-use Rattle.bson.specs.Value.{content, valueIn, valueOf, elementAt, readAt}
+use Rattle.bson.specs.Value.{content, valueIn, valueOf, readAt}
 use Rattle.bson.specs.Lookup.{Found, found, first, get, getWith, typed}
 use Rattle.laws.proofs.AnswerLaws.{never, gives-injective, unless-gives, then-gives, at-gives}
+use Rattle.laws.proofs.ReadLaws.{read-step}
 use Rattle.laws.proofs.Common.{split}
 use Rattle.laws.proofs.AdvanceLaws.{ended-at}
 use Rattle.laws.proofs.StepLaws.{Yields, yields-step, iterate-eq, Each, iterate-each}
@@ -71,11 +72,10 @@ get-finds s key f x = first-finds s key 4 (iterate s 4) (iterate-each s 4) f x
 -- a step at its place yields it, and a read there its value
 pub get-read : (s key : List ℕ) (f : Found) → get s key ≡ gives f
     → (step s (cursor (f .element .place) false) ≡ gives (yield (f .element))) × (readAt s (f .element .place) ≡ gives (f .value))
-unfolding readAt elementAt
 get-read s key f x =
     let r = get-finds s key f x in
     let y = yields-step s (r .at-cursor) (f .element) (r .yields) in
-    (y, rw (y, r .reads))
+    (y, read-step s (f .element .place) (f .element) y ∙ r .reads)
 
 -- it lies in the slice, and so do the parts of its value
 pub get-inside : (s key : List ℕ) (f : Found) → get s key ≡ gives f → (past (f .element) ≤ length s) × BothEnd (length s) (f .value)

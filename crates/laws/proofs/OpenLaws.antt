@@ -2,7 +2,7 @@
 use Prim.Native.Nat.{ℕ, _+_, _-_, _≤_, _<_}
 use mathlib.Core.Path.{_≡_, refl, sym, ap, subst, _∙_}
 use mathlib.Core.List.{List}
-use mathlib.Core.Bool.{Bool, _&&_}
+use mathlib.Core.Bool.{Bool, true, _&&_}
 use native.Mathlib.Omega.{arith}
 use lib.ListN.{length, getD, take, drop, length-drop}
 use lib.Seq.{length-take-le, getD-take}
@@ -69,12 +69,14 @@ module _ (P : Value → Type 0) (leafy : (x : Leaf) → P (leaf x)) (v : Value) 
     content-case RegularExpression f e = let (r, q, g) = then-gives (patternOptions (bytes s w)) _ e in leaf-case g
     content-case JavaScriptCodeWithScope f e = of-scope e
 
--- what a code with scope that is read says: where its scope starts, that this is admitted, and where its code lies
+-- what a code with scope that is read says: where its scope starts, that its code is framed and UTF-8, that the scope is admitted, and where both lie
 pub record Scoped (b : List ℕ) (w : Part) (v : Value) : Type 0 where
   pub start : ℕ
   pub length-of : ℕ
   pub least : 9 ≤ start
   pub before : start < length b
+  pub framed-code : stringSize (drop 4 b) ≡ gives (start - 4)
+  pub texts : utf8 (bytes b (part 8 (start - 9))) ≡ true
   pub admits : admitted (drop start b) ≡ gives length-of
   pub is : codeWithScope (part (w .offset + 8) (start - 9)) (trim start 0 w) ≡ v
 
@@ -88,17 +90,20 @@ scope-says b w v e =
     let (k, a, e5) = then-gives (admitted (drop (4 + n) b)) _ e4 in
     let z = string-least (drop 4 b) n q in
     let m : n - 5 ≡ 4 + n - 9 = omega arith in
+    let i : n ≡ 4 + n - 4 = omega arith in
     record {
       start = 4 + n;
       length-of = k;
       least = omega arith;
       before = ltb-true (4 + n) (length b) l;
+      framed-code = q ∙ ap gives i;
+      texts = rw m at u;
       admits = a;
       is = ap (λ (x : ℕ). codeWithScope (part (w .offset + 8) x) (trim (4 + n) 0 w)) (sym m) ∙ gives-injective e5;
     }
 
 -- the four bytes in front are those of the whole
-le32-take : (n : ℕ) (v : List ℕ) → 4 ≤ n → le32 (take n v) ≡ le32 v
+pub le32-take : (n : ℕ) (v : List ℕ) → 4 ≤ n → le32 (take n v) ≡ le32 v
 unfolding le32
 le32-take n v h =
     let a : 0 < n = omega arith in

@@ -1,6 +1,6 @@
 -- The parts of a value that a reading gives lie in the slice (document 01, "Values"). Assumes nothing.
 use Prim.Native.Nat.{ℕ, _+_, _-_, _≤_}
-use mathlib.Core.Path.{_≡_, ap, subst, _∙_}
+use mathlib.Core.Path.{_≡_, subst}
 use mathlib.Core.List.{List}
 use mathlib.Core.Bool.{false, _&&_}
 use native.Mathlib.Omega.{arith}
@@ -12,9 +12,10 @@ use Rattle.bson.specs.Bytes.{le32, le64, i32, i64, Part, bytes, trim}
 use Rattle.bson.specs.Utf8.{utf8}
 use Rattle.bson.specs.Tags
 use Rattle.bson.specs.Framing.{inFront, patternOptions, framed}
-use Rattle.bson.specs.Step.{Cursor, cursor, Element, Step, yield, end, step, yielded}
+use Rattle.bson.specs.Step.{Cursor, cursor, Element}
 use Rattle.bson.specs.Value
-use Rattle.laws.proofs.AnswerLaws.{never, gives-injective, unless-gives, then-gives}
+use Rattle.laws.proofs.AnswerLaws.{gives-injective, unless-gives, then-gives}
+use Rattle.laws.proofs.ReadLaws.{read-says}
 use Rattle.laws.proofs.BytesLaws.{bytes-length}
 use Rattle.laws.proofs.Common.{split, both-hold}
 use Rattle.laws.proofs.FramingLaws.{string-least, pointer-is, binary-is, pattern-options-fit}
@@ -24,7 +25,7 @@ use Rattle.laws.proofs.OpenLaws.{scope-says, value-content}
 use Tags.{ElementType, Boolean, Int32, Double, Int64, DateTime, Timestamp, ObjectId, Decimal128, Null, Undefined, MinKey, MaxKey}
 use Tags.{String, JavaScriptCode, Symbol, DbPointer, EmbeddedDocument, Array, Binary, RegularExpression, JavaScriptCodeWithScope}
 use Value.{Leaf, Value, leaf, asLeaf, bool, timestampOf, text, binaryValue, scopeValue, content, valueOf}
-use Value.{string, code, symbol, dbPointer, elementAt, readAt, partsOf}
+use Value.{string, code, symbol, dbPointer, readAt, partsOf}
 
 -- a part ends in a slice of this length
 abbrev pub Ends : ℕ → Part → Type 0
@@ -105,14 +106,8 @@ parts-inside s c e y v x =
     let (t, f, h) = value-content s c e y v x in
     content-parts s (e .value) v (y .inside) t f h
 
-yielded-is : (place : ℕ) (x : Step) (e : Element) → yielded place x ≡ gives e → x ≡ yield e
-yielded-is place (yield d) e h = ap yield (gives-injective h)
-yielded-is place end e h = never h
-
 -- the same of a reading at a place
 pub read-inside : (s : List ℕ) (place : ℕ) (v : Value) → readAt s place ≡ gives v → BothEnd (length s) v
-unfolding readAt elementAt
 read-inside s place v x =
-    let (e, q, h) = then-gives (elementAt s place) _ x in
-    let (k, r, z) = then-gives (step s (cursor place false)) _ q in
-    parts-inside s (cursor place false) e (step-yields s _ e (r ∙ ap gives (yielded-is place k e z))) v h
+    let (e, y, h) = read-says s place v x in
+    parts-inside s (cursor place false) e (step-yields s _ e y) v h

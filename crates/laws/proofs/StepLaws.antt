@@ -8,7 +8,7 @@ use native.Mathlib.Omega.{arith}
 use lib.ListN.{length, getD, take, drop, length-drop}
 use lib.Seq.{getD-drop}
 use lib.Dec.{leb, eqb}
-use borrow.Author.Tests.{leb-true, le-leb, lt-ltb, eq-eqb, ne-eqb, eqb-true, eqb-false}
+use borrow.Author.Tests.{leb-true, ltb-true, le-leb, lt-ltb, eq-eqb, ne-eqb, eqb-true, eqb-false}
 use Rattle.bson.specs.Answer.{Answer, gives, refuses}
 use Rattle.bson.specs.Bytes.{le32, natural, bytes, same}
 use Rattle.bson.specs.Utf8.{utf8}
@@ -22,13 +22,16 @@ use Rattle.laws.proofs.BytesLaws.{same-eq}
 use Rattle.laws.proofs.Common.{split, both-hold}
 use Rattle.laws.proofs.CstringLaws.{before-least, cstring-below, cstring-valid}
 
-pub admitted-says : (s : List ℕ) (n : ℕ) → admitted s ≡ gives n → (5 ≤ length s) × (n ≡ length s) × (getD s (terminator s) 0 ≡ 0)
+pub admitted-says : (s : List ℕ) (n : ℕ) → admitted s ≡ gives n
+    → (5 ≤ length s) × (n ≡ length s) × (getD s (terminator s) 0 ≡ 0) × (le32 s ≡ length s) × (length s < 2147483648)
 unfolding admitted
 admitted-says s n e =
     let (t, e1) = unless-gives (leb 5 (length s)) 1 _ e in
     let (u, e2) = unless-gives (natural (le32 s) && eqb (le32 s) (length s)) 2 _ e1 in
     let (w, e3) = unless-gives (eqb (getD s (terminator s) 0) 0) 3 _ e2 in
-    (leb-true 5 (length s) t, sym (gives-injective e3), eqb-true _ _ w)
+    let (k, l) = both-hold (natural (le32 s)) (eqb (le32 s) (length s)) u in
+    let i = eqb-true (le32 s) (length s) l in
+    (leb-true 5 (length s) t, sym (gives-injective e3), eqb-true _ _ w, i, omega (arith, ltb-true (le32 s) 2147483648 k))
 
 -- a step that is not refused is one in an admitted document
 pub step-admits : (s : List ℕ) (c : Cursor) (x : Step) → step s c ≡ gives x → admitted s ≡ gives (length s)

@@ -1,18 +1,15 @@
 -- The numbers that C is handed for a value that was read tell the value: from its tag, its number and its parts it is had again (document 01,
 -- "Values" and module 8). Assumes nothing.
-use Prim.Native.Nat.{ℕ, _+_, _*_, _-_, _/_, _%_, _≤_, _<_}
+use Prim.Native.Nat.{ℕ, _+_, _*_, _-_, _/_, _%_}
 use mathlib.Core.Path.{_≡_, refl, ap, subst}
 use mathlib.Core.List.{List}
 use mathlib.Core.Bool.{Bool, true, false, cond, _&&_}
-use native.Mathlib.Nat.{min-le-left}
 use native.Mathlib.Omega.{arith}
-use lib.Dec.{leb, ltb, eqb}
+use lib.Dec.{leb, eqb}
 use lib.IntN.{ℤ}
-use lib.ListN.{length, getD, take, drop, length-take}
-use lib.Seq.{getD-take, getD-drop}
-use borrow.Author.Tests.{ltb-true, ltb-false}
+use lib.ListN.{length, getD, drop}
 use Rattle.bson.specs.Answer.{Answer, gives, refuses}
-use Rattle.bson.specs.Bytes.{le32, le64, i32, i64, signed, Part, part, bytes, trim}
+use Rattle.bson.specs.Bytes.{AreBytes, le32, le64, i32, i64, signed, Part, part, bytes, trim}
 use Rattle.bson.specs.Framing.{inFront, patternOptions}
 use Rattle.bson.specs.Grammar.{unsigned, Ranged}
 use Rattle.bson.specs.Step.{past}
@@ -22,6 +19,8 @@ use Rattle.laws.proofs.AnswerLaws.{gives-injective, unless-gives, then-gives, a
 use Rattle.laws.proofs.Common.{split}
 use Rattle.laws.proofs.FramingLaws.{in-front-is}
 use Rattle.laws.proofs.GrammarLaws.{signed-unsigned}
+use Rattle.laws.proofs.GrammarBack.{bytes-are, le32-below, i32-ranged, i64-ranged}
+use Rattle.laws.proofs.ReadLaws.{read-says}
 use Rattle.laws.proofs.OpenLaws.{scope-says}
 use Rattle.theorems.proofs.Refusals.{Numbered, numbered, read-in}
 use Rattle.numbers.specs.Numbers.{tagOf, bitsOf, valueRead}
@@ -31,7 +30,7 @@ use Tags.{ElementType, Boolean, Int32, Double, Int64, DateTime, Timestamp, Objec
 use Tags.{String, JavaScriptCode, Symbol, DbPointer, EmbeddedDocument, Array, Binary, RegularExpression, JavaScriptCodeWithScope, typeOf}
 use Value.{Leaf, Value, leaf, document, array, codeWithScope, boolean, int32, int64, dateTime, double, timestamp, objectId, decimal128, string, code}
 use Value.{symbol, null, undefined, minKey, maxKey, dbPointer, binary, regex, asLeaf, bool, timestampOf, text, binaryValue, content}
-use Value.{valueIn, valueOf, elementAt, readAt, partsOf}
+use Value.{valueIn, valueOf, readAt, partsOf}
 
 -- the value of a tag, a number and two parts
 abbrev valueFrom : ℕ → ℕ → Part → Part → Value
@@ -61,28 +60,7 @@ valueFrom tag bits p q =
 abbrev Had : Value → Type 0
 Had v = valueFrom (tagOf v) (bitsOf v) (partsOf v .0) (partsOf v .1) ≡ v
 
--- a number read by two's complement fits its bits, and more bits too
-signed-ranged : (half wide n : ℕ) → 0 < half → half ≤ wide → Ranged wide (signed half n)
-unfolding signed
-signed-ranged half wide n h k =
-    split (ltb n half)
-    (λ t. let i = ltb-true n half t in rw t (omega arith))
-    (λ t. let i = ltb-false n half t in rw t (omega arith))
-
--- every byte of a slice is below 256
-abbrev pub AreBytes : List ℕ → Type 0
-AreBytes s = (i : ℕ) → getD s i 0 < 256
-
 module _ (s : List ℕ) (small : AreBytes s) where
-  le32-below : (p : Part) → 4 ≤ length (bytes s p) → le32 (bytes s p) < 0x1_0000_0000
-  unfolding le32 bytes
-  le32-below p h =
-      let k : 4 ≤ p .size = omega (arith, length-take (p .size) (drop (p .offset) s), min-le-left (p .size) (length (drop (p .offset) s))) in
-      omega (arith, below 0 (omega arith), below 1 (omega arith), below 2 (omega arith), below 3 (omega arith))
-    where
-      below : (i : ℕ) → i < p .size → getD (take (p .size) (drop (p .offset) s)) i 0 < 256
-      below i l = rw (getD-take, getD-drop) (small (p .offset + i))
-
   module _ (v : Value) where
     had : (x : Value) → Had x → gives x ≡ gives v → Had v
     had x h e = subst Had (gives-injective e) h
@@ -108,8 +86,8 @@ module _ (s : List ℕ) (small : AreBytes s) where
     timestamp-had p t e =
         let (i, q, e1) = then-gives (inFront 4 le32 (bytes s p)) _ e in
         let (n, r, e2) = then-gives (inFront 4 le32 (drop 4 (bytes s p))) _ e1 in
-        let (l, b) = in-front-is 4 le32 (bytes s p) i q in
-        let k = le32-below p l in
+        let k = le32-below (bytes s p) (bytes-are s p small) in
+        let b = in-front-is 4 le32 (bytes s p) i q .1 in
         let low : (i + 4294967296 * n) % 0x1_0000_0000 ≡ i = omega arith in
         let high : (i + 4294967296 * n) / 0x1_0000_0000 ≡ n = omega arith in
         subst (λ (x : ℕ × ℕ). Had (leaf (timestamp (x .0) (x .1)))) (gives-injective e2) (rw (low, high))
@@ -122,15 +100,15 @@ module _ (s : List ℕ) (small : AreBytes s) where
         (λ t. had _ refl (rw t at e))
 
     content-had : (p : Part) (t : ElementType) → content s p t ≡ gives v → Had v
-    unfolding content tagOf bitsOf partsOf i32 i64
+    unfolding content tagOf bitsOf partsOf
     content-had p Boolean e = leaf-had boolean (bool (bytes s p)) (λ b q. boolean-had b) e
     content-had p Int32 e =
-        integer-had int32 i32 4 p (λ z q. ap (λ (x : ℤ). leaf (int32 x)) q) (signed-ranged _ _ (le32 (bytes s p)) (omega arith) (omega arith)) e
+        integer-had int32 i32 4 p (λ z q. ap (λ (x : ℤ). leaf (int32 x)) q) (i32-ranged (bytes s p) _ (omega arith)) e
     content-had p Double e = leaf-had double (inFront 8 le64 (bytes s p)) (λ b q. refl) e
     content-had p Int64 e =
-        integer-had int64 i64 8 p (λ z q. ap (λ (x : ℤ). leaf (int64 x)) q) (signed-ranged _ _ (le64 (bytes s p)) (omega arith) (omega arith)) e
+        integer-had int64 i64 8 p (λ z q. ap (λ (x : ℤ). leaf (int64 x)) q) (i64-ranged (bytes s p)) e
     content-had p DateTime e =
-        integer-had dateTime i64 8 p (λ z q. ap (λ (x : ℤ). leaf (dateTime x)) q) (signed-ranged _ _ (le64 (bytes s p)) (omega arith) (omega arith)) e
+        integer-had dateTime i64 8 p (λ z q. ap (λ (x : ℤ). leaf (dateTime x)) q) (i64-ranged (bytes s p)) e
     content-had p Timestamp e = leaf-had _ (timestampOf (bytes s p)) (timestamp-had p) e
     content-had p ObjectId e = had _ refl e
     content-had p Decimal128 e = had _ refl e
@@ -149,9 +127,9 @@ module _ (s : List ℕ) (small : AreBytes s) where
     content-had p JavaScriptCodeWithScope e = subst Had (scope-says (bytes s p) p v e .is) refl
 
     read-had : (place : ℕ) → readAt s place ≡ gives v → Had v
-    unfolding readAt valueOf valueIn
+    unfolding valueOf valueIn
     read-had place x =
-        let (e, q, x1) = then-gives (elementAt s place) _ x in
+        let (e, y, x1) = read-says s place v x in
         let (u, x2) = unless-gives (leb (past e) (length s)) 9 _ (at-gives (e .place) _ x1) in
         let (t, r, x3) = then-gives (typeOf (e .tag)) _ x2 in
         content-had (e .value) t x3

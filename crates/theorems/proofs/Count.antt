@@ -16,11 +16,12 @@ use Rattle.bson.specs.Level.{Opening, closed, opens, opening, outermost}
 use Rattle.bson.specs.Check.{check}
 use Rattle.bson.specs.Reach.{Spot, start, behind, within, YieldsAt, Comes, first, next, into, placeOf, Rising, Number}
 use Rattle.laws.proofs.AnswerLaws.{gives-injective}
+use Rattle.laws.proofs.ReadLaws.{read-step, read-says}
 use Rattle.laws.proofs.StepLaws.{step-yields}
 use Rattle.laws.proofs.AdvanceLaws.{ended-at}
 use Rattle.laws.proofs.CheckLaws.{Visited, walk-eq}
 use Rattle.theorems.proofs.Spots.{walkAt, left, Inner, plain, deep, Walked, ended, more, walked-says}
-use Rattle.theorems.proofs.Spots.{read-yielded, read-says, opens-deeper, one-element}
+use Rattle.theorems.proofs.Spots.{opens-deeper, one-element}
 
 -- from one spot one comes to another; `Comes` grows at its far end, this at the near one, where a walk begins
 data Leads : Spot → Spot → Type 0 where
@@ -54,13 +55,13 @@ module _ {σ : Spot} (e : Element) (y : YieldsAt σ e) (v : Value) (x : valueOf 
   leads-cases o q here = inl (inl refl)
   leads-cases {τ} o q (on f z l) = inr (subst (λ (d : Element). Leads (behind σ d) τ) (one-element _ f e z y) l)
   leads-cases {τ} o q (down w isArray levels p z r l) =
-      let i : w ≡ v = gives-injective (sym z ∙ read-yielded σ e y ∙ x) in
+      let i : w ≡ v = gives-injective (sym z ∙ read-step (σ .document) (σ .offset) e y ∙ x) in
       inl (inr (subst (λ (k : Opening). Inside σ k τ) (sym r ∙ ap opening i ∙ q) l))
 
   cases-lead : {τ : Spot} (o : Opening) → opening v ≡ o → ((τ ≡ σ) ⊎ Inside σ o τ) ⊎ Leads (behind σ e) τ → Leads σ τ
   cases-lead o q (inl (inl i)) = subst (Leads σ) (sym i) here
   cases-lead closed q (inl (inr l)) = absurd l
-  cases-lead (opens isArray levels p) q (inl (inr l)) = down v isArray levels p (read-yielded σ e y ∙ x) q l
+  cases-lead (opens isArray levels p) q (inl (inr l)) = down v isArray levels p (read-step (σ .document) (σ .offset) e y ∙ x) q l
   cases-lead o q (inr l) = on e y l
 
 -- the values at spots of a kind, n of them, listed by rising place
@@ -138,7 +139,7 @@ module _ (σ : Spot) (q : step (σ .document) (cursor (σ .offset) false) ≡ gi
   end-last : {τ : Spot} → Leads σ τ → Stands τ → ⊥
   end-last here z = end-empty z
   end-last (on e y l) z = end-empty (e, y)
-  end-last (down v isArray levels p x o l) z = let (e, y, r) = read-says σ v x in end-empty (e, y)
+  end-last (down v isArray levels p x o l) z = let (e, y, r) = read-says (σ .document) (σ .offset) v x in end-empty (e, y)
 
   from-end : ValuesFrom σ 0
   from-end = listed-none _ _ (omega (arith, ended-at (σ .document) (σ .offset) q)) (λ τ l z. end-last l z)

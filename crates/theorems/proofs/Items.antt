@@ -185,18 +185,25 @@ of-binary subtype d =
     (λ t. rw (t, eqb-true subtype 2 t) (of-old-data d))
     (λ t. rw t (of-data subtype d t))
 
-of-regex : (p o : List ℕ) → validCstr p ≡ true → validCstr o ≡ true → Readable 0x0B (p ++ (0 ∷ (o ++ (0 ∷ [])))) (regex p o)
-unfolding framed content rowOf tags
-of-regex p o h k s offset back small here inside =
-    let value = p ++ (0 ∷ (o ++ (0 ∷ []))) in
+-- a pattern lies in front, its options behind its zero
+pub regex-here : (s : List ℕ) (offset : ℕ) (p o back : List ℕ) → drop offset s ≡ p ++ (0 ∷ (o ++ (0 ∷ []))) ++ back
+    → (bytes s (part offset (length p)) ≡ p) × (bytes s (part (offset + (length p + 1)) (length o)) ≡ o)
+regex-here s offset p o back here =
     let e = here ∙ append-assoc p (0 ∷ (o ++ (0 ∷ []))) back in
     let next = offset + (length p + 1) in
     let behind : drop next s ≡ o ++ (0 ∷ []) ++ back =
     sym (drop-drop (length p + 1) offset s) ∙ ap (drop (length p + 1)) e ∙ drop-append-add p (0 ∷ (o ++ (0 ∷ []) ++ back)) 1 in
+    (bytes-here s offset p _ e (length p) refl, bytes-here s next o (0 ∷ back) (behind ∙ append-assoc o (0 ∷ []) back) (length o) refl)
+
+of-regex : (p o : List ℕ) → validCstr p ≡ true → validCstr o ≡ true → Readable 0x0B (p ++ (0 ∷ (o ++ (0 ∷ [])))) (regex p o)
+unfolding framed content rowOf tags
+of-regex p o h k s offset back small here inside =
+    let value = p ++ (0 ∷ (o ++ (0 ∷ []))) in
+    let (i, j) = regex-here s offset p o back here in
     typed s offset value back here inside 0x0B (regex p o) RegularExpression refl (regex-of p o back h k)
-    (regex (part offset (length p)) (part next (length o)))
+    (regex (part offset (length p)) (part (offset + (length p + 1)) (length o)))
     (rw (here-bytes s offset value back here inside, pattern-options-of p o [] h k))
-    (rw (bytes-here s offset p _ e (length p) refl, bytes-here s next o (0 ∷ back) (behind ∙ append-assoc o (0 ∷ []) back) (length o) refl))
+    (rw (i, j))
 
 bool-of : (b : Bool) → bool (cond b 1 0 ∷ []) ≡ gives b
 unfolding bool fits

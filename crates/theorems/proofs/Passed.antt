@@ -17,12 +17,13 @@ use Rattle.bson.specs.Lookup.{Found, found, get, getBytes, getWith}
 use Rattle.bson.specs.Check.{check}
 use Rattle.bson.specs.Reach.{Spot, start, Comes, Reachable, From, first, next, Among, Absent, First}
 use Rattle.laws.proofs.AnswerLaws.{never, gives-injective}
+use Rattle.laws.proofs.ReadLaws.{read-step}
 use Rattle.laws.proofs.Common.{split}
 use Rattle.laws.proofs.BytesLaws.{same-eq}
 use Rattle.laws.proofs.StepLaws.{step-yields}
 use Rattle.laws.proofs.AdvanceLaws.{step-ended}
 use Rattle.laws.proofs.LookupLaws.{search-from, search-ends, search-found, search-onward, get-finds}
-use Rattle.theorems.proofs.Spots.{Walked, ended, more, walked-says, read-yielded, accepted-onward, comes-accepted}
+use Rattle.theorems.proofs.Spots.{Walked, ended, more, walked-says, accepted-onward, comes-accepted}
 use Rattle.laws.proofs.StepLaws.{step-admits}
 use Rattle.laws.proofs.AdvanceLaws.{ended-at}
 use Rattle.theorems.proofs.First.{among-yields, first-one, Without, without-next}
@@ -66,7 +67,7 @@ module _ (s : List ℕ) (n : ℕ) (passed : check false s ≡ gives n) where
 
   -- No reading of a reachable value is refused.
   pub reading-answers : (σ : Spot) → Reachable s σ → (v : Value) × (readAt (σ .document) (σ .offset) ≡ gives v)
-  reading-answers σ x = let (v, r) = value-reads σ x in (v, read-yielded σ (x .element) (x .yields) ∙ r)
+  reading-answers σ x = let (v, r) = value-reads σ x in (v, read-step (σ .document) (σ .offset) (x .element) (x .yields) ∙ r)
 
   -- A reading with a tag is refused by 17 alone, exactly when the tag is another.
   pub reading-other : (σ : Spot) (x : Reachable s σ) (tag : ℕ) (k p : ℕ)
@@ -137,7 +138,7 @@ module _ (s : List ℕ) (n : ℕ) (passed : check false s ≡ gives n) where
     lookup-value f q =
         let a = lookup-first (f .element) .0 (f .value, q) .among in
         let σ : Spot = record { document = d; level = l; position = 0; offset = a .offset } in
-        ap (readAt d) (among-yields d _ a .placed) ∙ read-yielded σ _ (a .yields) ∙ get-finds d key f q .reads
+        ap (readAt d) (among-yields d _ a .placed) ∙ read-step (σ .document) (σ .offset) _ (a .yields) ∙ get-finds d key f q .reads
 
     -- It is refused as absent and by nothing else.
     pub lookup-refused : (k p : ℕ) → get d key ≡ refuses k p → (k ≡ 16) × (p ≡ terminator d)

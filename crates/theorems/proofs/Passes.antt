@@ -15,8 +15,9 @@ use Rattle.bson.specs.Grammar.{levels, isArray, Elements, size, Shallow, ArrayK
 use Rattle.bson.specs.Meaning.{Holding, single, nested, holding, Yields, MeansFrom, ends, yields, opens as holds, Means}
 use Rattle.bson.specs.Reach.{Spot, behind}
 use Rattle.laws.proofs.Common.{split}
+use Rattle.laws.proofs.ReadLaws.{read-step}
 use Rattle.laws.proofs.CheckLaws.{walk-from, walk-eq, walk-ends}
-use Rattle.theorems.proofs.Spots.{walkAt, Inner, plain, deep, more, walked-gives, read-yielded}
+use Rattle.theorems.proofs.Spots.{walkAt, Inner, plain, deep, more, walked-gives}
 
 -- what a check asks of the keys in arrays: the plain one nothing
 abbrev pub KeysAsked : Bool → Bool → ℕ → Elements → Type 0
@@ -51,7 +52,7 @@ yields-passes : (strict : Bool) (σ : Spot) {key : List ℕ} {tag : ℕ} {h : Ho
     → (strict ≡ true → σ .level .isArray ≡ true → goodArrayKey (σ .position) key ≡ true)
     → Inner strict σ (openingOf h) n → walkAt strict (behind σ e) ≡ gives m → walkAt strict σ ≡ gives (n + m)
 yields-passes strict σ {h = h} e n m y low key i w =
-    let reads = sym (read-yielded σ e (y .steps)) ∙ y .reads in
+    let reads = sym (read-step (σ .document) (σ .offset) e (y .steps)) ∙ y .reads in
     let is = holding-opens (σ .document) (y .value) ∙ ap openingOf (y .holds) in
     let passes : keyPasses strict (σ .level) (σ .position) (bytes (σ .document) (e .key)) ≡ true =
     rw (y .keyed) (key-asked strict (σ .level) (σ .position) _ key) in

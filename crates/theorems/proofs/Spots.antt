@@ -7,12 +7,13 @@ use native.Mathlib.Omega.{arith}
 use lib.ListN.{length}
 use Rattle.bson.specs.Answer.{Answer, gives, refuses, then}
 use Rattle.bson.specs.Bytes.{Part, bytes}
-use Rattle.bson.specs.Step.{cursor, Element, Step, yield, end, step, yielded}
-use Rattle.bson.specs.Value.{Value, valueOf, elementAt, readAt}
+use Rattle.bson.specs.Step.{cursor, Element, Step, yield, end, step}
+use Rattle.bson.specs.Value.{Value, valueOf}
 use Rattle.bson.specs.Level.{Opening, closed, opens, opening}
 use Rattle.bson.specs.Check.{inside, visit, opened, walk, check}
 use Rattle.bson.specs.Reach.{Spot, behind, within, YieldsAt, Comes, first, next, into}
 use Rattle.laws.proofs.AnswerLaws.{never, gives-injective, then-gives, then-from}
+use Rattle.laws.proofs.ReadLaws.{read-says}
 use Rattle.laws.proofs.StepLaws.{Yields, step-yields}
 use Rattle.laws.proofs.OpenLaws.{Opens, value-opens, opens-shorter}
 use Rattle.laws.proofs.CheckLaws.{Visited, visit-says, visit-gives, walk-from, walk-eq, walk-ends, walk-refused, walk-onward}
@@ -80,22 +81,6 @@ module _ (strict : Bool) (σ : Spot) where
   walked-gives n (more e k m y o w) =
       walk-onward strict _ _ _ _ e y ∙ then-from _ _ (opened-gives e k o) ∙ then-from _ _ w
 
--- a reading at a spot is the reading of what the step there yields
-pub read-yielded : (σ : Spot) (e : Element) → YieldsAt σ e → readAt (σ .document) (σ .offset) ≡ valueOf (σ .document) e
-unfolding readAt elementAt
-read-yielded σ e y = rw y
-
-yielded-says : (offset : ℕ) (e : Element) (x : Answer Step) → then x (yielded offset) ≡ gives e → x ≡ gives (yield e)
-yielded-says offset e (gives (yield d)) q = ap (λ (f : Element). gives (yield f)) (gives-injective q)
-yielded-says offset e (gives end) q = never q
-yielded-says offset e (refuses n p) q = never q
-
-pub read-says : (σ : Spot) (v : Value) → readAt (σ .document) (σ .offset) ≡ gives v → (e : Element) × YieldsAt σ e × (valueOf (σ .document) e ≡ gives v)
-unfolding readAt elementAt
-read-says σ v x =
-    let (e, q, h) = then-gives (then (step (σ .document) (cursor (σ .offset) false)) (yielded (σ .offset))) _ x in
-    (e, yielded-says (σ .offset) e (step (σ .document) (cursor (σ .offset) false)) q, h)
-
 -- what is opened at a spot lies inside the element there, and is shorter than its document
 pub record Deeper (σ : Spot) (e : Element) (p : Part) : Type 0 where
   pub yields : Yields (σ .document) (cursor (σ .offset) false) e
@@ -160,7 +145,7 @@ comes-accepted strict s n h τ (next {σ} e c y) =
     (r .rest, r .accepted)
 comes-accepted strict s n h τ (into {σ} v isArray levels p c x o) =
     let (m, w) = comes-accepted strict s n h σ c in
-    let (e, y, q) = read-says σ v x in
+    let (e, y, q) = read-says (σ .document) (σ .offset) v x in
     let r = accepted-onward strict σ e m y w .opened in
     let i : r .visited .value ≡ v = gives-injective (sym (r .visited .reads) ∙ q) in
     inner-accepted strict σ isArray levels p (r .what) _ (sym (r .visited .is) ∙ ap opening i ∙ o) (r .inner)

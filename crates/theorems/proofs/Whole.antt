@@ -14,12 +14,13 @@ use Rattle.bson.specs.Level.{Opening, closed, opens, opening, outermost}
 use Rattle.bson.specs.Check.{keyPasses, check}
 use Rattle.bson.specs.Reach.{Spot, start, behind, within, YieldsAt, Comes, first, next, into, Reachable, Ends, here, later, Whole, GoodKeys}
 use Rattle.laws.proofs.AnswerLaws.{never}
+use Rattle.laws.proofs.ReadLaws.{read-step, read-says}
 use Rattle.laws.proofs.Common.{split}
 use Rattle.laws.proofs.StepLaws.{step-admits, step-yields}
 use Rattle.laws.proofs.AdvanceLaws.{step-ends, ended-at}
 use Rattle.laws.proofs.CheckLaws.{walk-eq}
 use Rattle.theorems.proofs.Spots.{walkAt, left, Inner, plain, deep, Opened, Walked, ended, more, walked-says, walked-gives}
-use Rattle.theorems.proofs.Spots.{read-yielded, read-says, opens-deeper, Onward, accepted-onward, comes-accepted}
+use Rattle.theorems.proofs.Spots.{opens-deeper, Onward, accepted-onward, comes-accepted}
 use Rattle.theorems.proofs.First.{ends-next}
 
 -- the key test of a check holds at every reachable value; the plain check's holds always
@@ -55,7 +56,7 @@ module _ (strict : Bool) (s : List ℕ) (n : ℕ) (passed : check strict s ≡ g
       record {
         admits = let (m, w) = accepted _ first in walked-admitted strict _ m (walked-says strict (start s outermost) m w);
         ends = λ d l c. let (m, w) = accepted _ c in walked-ends (suc (length d)) strict _ m (omega arith) (walked-says strict (start d l) m w);
-        reads = λ σ x. let v = reached σ x .1 .opened .visited in (v .value, read-yielded σ (x .element) (x .yields) ∙ v .reads);
+        reads = λ σ x. let v = reached σ x .1 .opened .visited in (v .value, read-step (σ .document) (σ .offset) (x .element) (x .yields) ∙ v .reads);
         shallow = λ σ x. reached σ x .1 .opened .visited .shallow;
       }
 
@@ -73,7 +74,7 @@ module _ (s : List ℕ) (whole : Whole s) where
   comes-admitted σ first = whole .admits
   comes-admitted τ (next {σ} e c y) = step-admits (σ .document) _ (yield e) y
   comes-admitted τ (into {σ} v isArray levels p c x o) =
-      let (e, y, q) = read-says σ v x in
+      let (e, y, q) = read-says (σ .document) (σ .offset) v x in
       let r = opens-deeper σ e v isArray levels p y q o in
       r .lies .admits ∙ ap gives (sym (r .sized))
 
@@ -95,14 +96,14 @@ module _ (s : List ℕ) (whole : Whole s) where
     inner-counts e v y x closed q = (1, λ strict k. plain)
     inner-counts e v y x (opens isArray levels p) q =
         let r = opens-deeper σ e v isArray levels p y x q in
-        let (n, w) = ih (within σ isArray levels p) (into v isArray levels p c (read-yielded σ e y ∙ x) q) (omega arith) in
+        let (n, w) = ih (within σ isArray levels p) (into v isArray levels p c (read-step (σ .document) (σ .offset) e y ∙ x) q) (omega arith) in
         (1 + n, λ strict k. deep isArray levels p n (w strict k))
 
     opened-counts : (e : Element) → YieldsAt σ e → Counts (λ strict n. Opened strict σ e n)
     opened-counts e y =
         let r : Reachable s σ = record { comes = c; element = e; yields = y } in
         let (v, x) = whole .reads σ r in
-        let q : valueOf (σ .document) e ≡ gives v = sym (read-yielded σ e y) ∙ x in
+        let q : valueOf (σ .document) e ≡ gives v = sym (read-step (σ .document) (σ .offset) e y) ∙ x in
         let (n, i) = inner-counts e v y q (opening v) refl in (
           n,
           λ strict k. record {

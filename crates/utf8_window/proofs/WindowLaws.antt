@@ -9,6 +9,7 @@ use lib.Dec.{T, eqb, ltb}
 use lib.ListN.{length, getD, drop, drop-of-length-le, List·getD-eq-default}
 use lib.Seq.{drop-cons}
 use borrow.Author.Tests.{ltb-true, ltb-false}
+use Rattle.bson.specs.Bytes.{AreBytes}
 use Rattle.bson.specs.Utf8.{Range, _to_, tail, rows, Left, bad, left, next, read, whole, utf8}
 use Rattle.laws.proofs.Common.{split, below, below-at, both-left, both-right}
 use Rattle.utf8_window.specs.Window.{asked, strayBehind, stray}
@@ -112,13 +113,13 @@ read-one {l} s j a =
     (λ t. let h = ltb-false j (length s) t in let g : length s ≤ suc j = omega arith in
     rw (drop-of-length-le s h, drop-of-length-le s g, List·getD-eq-default s 0 h) (zero-same a))
 
-went-on : {s : List ℕ} {any : Bool} {j p q o : ℕ} → ((i : ℕ) → getD s i 0 < 256) → Went s any j p q o
+went-on : {s : List ℕ} {any : Bool} {j p q o : ℕ} → AreBytes s → Went s any j p q o
     → Went s (any || stray (getD s j 0) p q o) (suc j) (getD s j 0) p q
 went-on {s} {j = j} k w =
     record { l = next (w .l) (getD s j 0); after = after-next (getD s j 0) (k j) (w .after); same = read-one s j (w .after) ∙ w .same }
 
 -- the first three bytes
-pub went-start : {s : List ℕ} {a b c : ℕ} {x y z : Bool} → ((i : ℕ) → getD s i 0 < 256)
+pub went-start : {s : List ℕ} {a b c : ℕ} {x y z : Bool} → AreBytes s
     → a ≡ getD s 0 0 → b ≡ getD s 1 0 → c ≡ getD s 2 0 → x ≡ stray a 0 0 0 → y ≡ stray b a 0 0 → z ≡ stray c b a 0
     → Went s ((x || y) || z) 3 (getD s 2 0) (getD s 1 0) (getD s 0 0)
 unfolding utf8
@@ -130,7 +131,7 @@ went-start {s} k ea eb ec ex ey ez =
 abbrev pub Turned : List ℕ → Bool → ℕ → Type 0
 Turned s any j = (3 ≤ j) × Went s any j (getD s (j - 1) 0) (getD s (j - 2) 0) (getD s (j - 3) 0)
 
-pub went-turn : {s : List ℕ} {any t : Bool} {j : ℕ} → ((i : ℕ) → getD s i 0 < 256) → Turned s any j
+pub went-turn : {s : List ℕ} {any t : Bool} {j : ℕ} → AreBytes s → Turned s any j
     → t ≡ stray (getD s j 0) (getD s (j - 1) 0) (getD s (j - 2) 0) (getD s (j - 3) 0) → Turned s (any || t) (j + 1)
 went-turn {s} {any} {t} {j} k (h, w) e =
     let one : j + 1 - 1 ≡ j = omega arith in
