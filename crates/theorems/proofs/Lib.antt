@@ -12,6 +12,11 @@ pub mod Steps
 pub mod Means
 pub mod Unique
 pub mod Passes
+pub mod ItemsBack
+pub mod Meant
+pub mod TreeOf
+pub mod Children
+pub mod OneMeaning
 pub mod Holds
 pub mod Shown
 pub mod Trace

@@ -1,3 +1,5 @@
 pub mod Demand3
 pub mod EveryByte
+pub mod Children
+pub mod OneMeaning
 pub mod ReadBack
