@@ -140,7 +140,8 @@ typedef struct {
 /* The whole check: every element of every level, its value read, none deeper than 200 (top values have depth 0; inside documents and
  * arrays it is one more, inside a scope two). Refused by 1 to 13, the first met in the document's order; else `count` is the number of
  * values. A document that passed is then refused by none of 1 to 13 in a lookup, in a step from offset 4 or from where the last one
- * ended, or in reading at a place that a step gave. */
+ * ended, or in reading at a place that a step gave. It has one meaning: no other bytes read as the same elements, and each of its bytes
+ * is of its length, of one element's tag, key, zero or value, or its last zero; the same holds of every document inside. */
 fringewell_verdict fringewell_check(const uint8_t *document, size_t length);
 
 /* The same, and every key of an array is one or more decimal digits: else 19, before its value is read. */

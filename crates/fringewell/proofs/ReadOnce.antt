@@ -11,7 +11,7 @@ use Rattle.bson.specs.Value.{valueOf, readAt}
 use Rattle.laws.proofs.ReadLaws.{read-step}
 use Rattle.laws.proofs.LookupLaws.{get-read, get-with-says}
 use Rattle.laws.proofs.StepLaws.{step-yields, yields-step}
-use Rattle.theorems.proofs.Refusals.{Numbered, numbered, get-in, get-with-in}
+use Rattle.theorems.proofs.Refusals.{NoZero, no-zero, get-in, get-with-in}
 use Rattle.numbers.specs.Numbers.{found, stepped, valueRead}
 use Rattle.numbers.specs.declared.FoundNumbers.{FoundNumbers}
 use Rattle.numbers.specs.declared.StepNumbers.{StepNumbers}
@@ -43,15 +43,15 @@ module _ (s : List ℕ) where
   abbrev pub FoundReadOnce : FoundNumbers → Type 0
   FoundReadOnce n = n .number ≡ 0 → ReadOnce (n .place) (n .tag) (n .offset) (n .size)
 
-  found-by : (a : Answer Found) → Numbered a → ((f : Found) → a ≡ gives f → step s (cursor (f .element .place) false) ≡ gives (yield (f .element)))
+  found-by : (a : Answer Found) → NoZero a → ((f : Found) → a ≡ gives f → step s (cursor (f .element .place) false) ≡ gives (yield (f .element)))
       → FoundReadOnce (found a)
   found-by (gives f) h y z = yielded-once _ (f .element) (y f refl)
   found-by (refuses number place) h y z = absurd (omega arith)
 
   pub lookup-once : (key : List ℕ) (n : FoundNumbers) → n ≡ found (get s key) → FoundReadOnce n
-  lookup-once key n q = rw q (found-by (get s key) (numbered refl (get-in s key)) (λ f x. get-read s key f x .0))
+  lookup-once key n q = rw q (found-by (get s key) (no-zero refl (get-in s key)) (λ f x. get-read s key f x .0))
 
   pub lookup-typed-once : (key : List ℕ) (tag : ℕ) (n : FoundNumbers) → n ≡ found (getWith s key tag) → FoundReadOnce n
   lookup-typed-once key tag n q =
       rw q
-      (found-by (getWith s key tag) (numbered refl (get-with-in s key tag)) (λ f x. get-read s key f (get-with-says s key tag f x .0) .0))
+      (found-by (getWith s key tag) (no-zero refl (get-with-in s key tag)) (λ f x. get-read s key f (get-with-says s key tag f x .0) .0))

@@ -3,4 +3,5 @@ pub mod Wide
 pub mod Read
 pub mod Determined
 pub mod Tells
+pub mod OneFrame
 pub mod ValueTells

@@ -17,7 +17,7 @@ use Rattle.bson.specs.Step.{Cursor, cursor, Step, yield, end, step, after}
 use Rattle.bson.specs.Value.{readAt}
 use Rattle.laws.proofs.AnswerLaws.{never, gives-injective}
 use Rattle.laws.proofs.LookupLaws.{get-read, get-with-says}
-use Rattle.theorems.proofs.Refusals.{Numbered, one-above, numbered, damage, JoinsIn, step-in, get-in, get-with-in, empty-in, check-in, join-in}
+use Rattle.theorems.proofs.Refusals.{NoZero, one-above, no-zero, damage, JoinsIn, step-in, get-in, get-with-in, empty-in, check-in, join-in}
 use Rattle.numbers.specs.Numbers.{verdict, emptiness, found, joined, stepped}
 use Rattle.numbers.specs.declared.VerdictNumbers.{VerdictNumbers}
 use Rattle.numbers.specs.declared.FoundNumbers.{FoundNumbers}
@@ -40,35 +40,35 @@ answer-refused number place a h = rw (ne-eqb number 0 (λ e. omega arith))
 abbrev verdictOf : VerdictNumbers → Answer ℕ
 verdictOf v = answerOf (v .number) (v .place) (v .count)
 
-verdict-back : (a : Answer ℕ) → Numbered a → verdictOf (verdict a) ≡ a
+verdict-back : (a : Answer ℕ) → NoZero a → verdictOf (verdict a) ≡ a
 verdict-back (gives n) h = refl
 verdict-back (refuses number place) h = answer-refused number place _ h
 
-pub verdict-tells : (a b : Answer ℕ) → Numbered a → Numbered b → verdict a ≡ verdict b → a ≡ b
+pub verdict-tells : (a b : Answer ℕ) → NoZero a → NoZero b → verdict a ≡ verdict b → a ≡ b
 verdict-tells a b h k = tells verdictOf (verdict-back a h) (verdict-back b k)
 
 pub check-tells : (strict strict′ : Bool) (s t : List ℕ) → verdict (check strict s) ≡ verdict (check strict′ t) → check strict s ≡ check strict′ t
-check-tells strict strict′ s t = verdict-tells _ _ (check-numbered strict s) (check-numbered strict′ t)
+check-tells strict strict′ s t = verdict-tells _ _ (check-no-zero strict s) (check-no-zero strict′ t)
   where
-    check-numbered : (b : Bool) (v : List ℕ) → Numbered (check b v)
-    check-numbered false v = numbered refl (check-in false v)
-    check-numbered true v = numbered refl (check-in true v)
+    check-no-zero : (b : Bool) (v : List ℕ) → NoZero (check b v)
+    check-no-zero false v = no-zero refl (check-in false v)
+    check-no-zero true v = no-zero refl (check-in true v)
 
 -- whether a document is empty
 
 abbrev emptinessOf : VerdictNumbers → Answer Bool
 emptinessOf v = answerOf (v .number) (v .place) (eqb (v .count) 1)
 
-emptiness-back : (a : Answer Bool) → Numbered a → emptinessOf (emptiness a) ≡ a
+emptiness-back : (a : Answer Bool) → NoZero a → emptinessOf (emptiness a) ≡ a
 emptiness-back (gives true) h = refl
 emptiness-back (gives false) h = refl
 emptiness-back (refuses number place) h = answer-refused number place _ h
 
-pub emptiness-tells : (a b : Answer Bool) → Numbered a → Numbered b → emptiness a ≡ emptiness b → a ≡ b
+pub emptiness-tells : (a b : Answer Bool) → NoZero a → NoZero b → emptiness a ≡ emptiness b → a ≡ b
 emptiness-tells a b h k = tells emptinessOf (emptiness-back a h) (emptiness-back b k)
 
 pub empty-tells : (s t : List ℕ) → emptiness (isEmpty s) ≡ emptiness (isEmpty t) → isEmpty s ≡ isEmpty t
-empty-tells s t = emptiness-tells _ _ (numbered refl (empty-in s)) (numbered refl (empty-in t))
+empty-tells s t = emptiness-tells _ _ (no-zero refl (empty-in s)) (no-zero refl (empty-in t))
 
 -- joining
 
@@ -101,7 +101,7 @@ abbrev cursorOf : StepNumbers → Cursor
 cursorOf v = cursor (v .next) (eqb (v .ended) 1)
 
 module _ (c : Cursor) where
-  step-back : (x : Answer Step) → Numbered x → stepOf (stepped x (after c x)) ≡ x
+  step-back : (x : Answer Step) → NoZero x → stepOf (stepped x (after c x)) ≡ x
   step-back (gives (yield e)) h = refl
   step-back (gives end) h = refl
   step-back (refuses number place) h = answer-refused number place end h
@@ -111,13 +111,13 @@ module _ (c : Cursor) where
   cursor-back (gives end) = refl
   cursor-back (refuses number place) = refl
 
-pub stepped-tells : (c d : Cursor) (x y : Answer Step) → Numbered x → Numbered y → stepped x (after c x) ≡ stepped y (after d y)
+pub stepped-tells : (c d : Cursor) (x y : Answer Step) → NoZero x → NoZero y → stepped x (after c x) ≡ stepped y (after d y)
     → (x ≡ y) × (after c x ≡ after d y)
 stepped-tells c d x y h k e = (tells stepOf (step-back c x h) (step-back d y k) e, tells cursorOf (cursor-back c x) (cursor-back d y) e)
 
 pub step-tells : (s t : List ℕ) (c d : Cursor) → stepped (step s c) (after c (step s c)) ≡ stepped (step t d) (after d (step t d))
     → (step s c ≡ step t d) × (after c (step s c) ≡ after d (step t d))
-step-tells s t c d = stepped-tells c d _ _ (numbered refl (step-in s c)) (numbered refl (step-in t d))
+step-tells s t c d = stepped-tells c d _ _ (no-zero refl (step-in s c)) (no-zero refl (step-in t d))
 
 -- a lookup: the numbers keep of an element its place, its tag and its value's framed bytes
 
@@ -130,11 +130,11 @@ sight f = (f .element .place, (f .element .tag, f .element .value))
 abbrev sightOf : FoundNumbers → Answer Sight
 sightOf v = answerOf (v .number) (v .place) (v .place, (v .tag, part (v .offset) (v .size)))
 
-found-back : (a : Answer Found) → Numbered a → sightOf (found a) ≡ (then a λ f. gives (sight f))
+found-back : (a : Answer Found) → NoZero a → sightOf (found a) ≡ (then a λ f. gives (sight f))
 found-back (gives f) h = refl
 found-back (refuses number place) h = answer-refused number place _ h
 
-pub found-tells : (a b : Answer Found) → Numbered a → Numbered b → found a ≡ found b
+pub found-tells : (a b : Answer Found) → NoZero a → NoZero b → found a ≡ found b
     → (then a λ f. gives (sight f)) ≡ (then b λ f. gives (sight f))
 found-tells a b h k = tells sightOf (found-back a h) (found-back b k)
 
@@ -149,7 +149,7 @@ module _ (s : List ℕ) where
       let v : f .value ≡ g .value = cc in
       rw (e, v)
 
-  lookup-tells : (a b : Answer Found) → Numbered a → Numbered b → ((f : Found) → a ≡ gives f → HadThere f) → ((f : Found) → b ≡ gives f → HadThere f)
+  lookup-tells : (a b : Answer Found) → NoZero a → NoZero b → ((f : Found) → a ≡ gives f → HadThere f) → ((f : Found) → b ≡ gives f → HadThere f)
       → found a ≡ found b → a ≡ b
   lookup-tells (gives f) (gives g) h k p q e =
       ap gives (one-there f g (p f refl) (q g refl) (ap (λ (x : Sight). x .0) (gives-injective (found-tells (gives f) (gives g) h k e))))
@@ -159,11 +159,11 @@ module _ (s : List ℕ) where
 
   pub get-tells : (key key′ : List ℕ) → found (get s key) ≡ found (get s key′) → get s key ≡ get s key′
   get-tells key key′ =
-      lookup-tells _ _ (numbered refl (get-in s key)) (numbered refl (get-in s key′)) (get-read s key) (get-read s key′)
+      lookup-tells _ _ (no-zero refl (get-in s key)) (no-zero refl (get-in s key′)) (get-read s key) (get-read s key′)
 
   pub get-with-tells : (key key′ : List ℕ) (tag tag′ : ℕ) → found (getWith s key tag) ≡ found (getWith s key′ tag′)
       → getWith s key tag ≡ getWith s key′ tag′
   get-with-tells key key′ tag tag′ =
-      lookup-tells _ _ (numbered refl (get-with-in s key tag)) (numbered refl (get-with-in s key′ tag′))
+      lookup-tells _ _ (no-zero refl (get-with-in s key tag)) (no-zero refl (get-with-in s key′ tag′))
       (λ f x. get-read s key f (get-with-says s key tag f x .0))
       (λ f x. get-read s key′ f (get-with-says s key′ tag′ f x .0))

@@ -22,7 +22,7 @@ use Rattle.laws.proofs.GrammarLaws.{signed-unsigned}
 use Rattle.laws.proofs.GrammarBack.{bytes-are, le32-below, i32-ranged, i64-ranged}
 use Rattle.laws.proofs.ReadLaws.{read-says}
 use Rattle.laws.proofs.OpenLaws.{scope-says}
-use Rattle.theorems.proofs.Refusals.{Numbered, numbered, read-in}
+use Rattle.theorems.proofs.Refusals.{NoZero, no-zero, read-in}
 use Rattle.numbers.specs.Numbers.{tagOf, bitsOf, valueRead}
 use Rattle.numbers.specs.declared.ValueNumbers.{ValueNumbers}
 use Rattle.numbers.proofs.Tells.{tells, answerOf, answer-refused}
@@ -137,7 +137,7 @@ module _ (s : List ℕ) (small : AreBytes s) where
 abbrev readOf : ValueNumbers → Answer Value
 readOf n = answerOf (n .number) (n .place) (valueFrom (n .tag) (n .bits) (part (n .offset) (n .size)) (part (n .offset2) (n .size2)))
 
-read-back : (a : Answer Value) → Numbered a → ((v : Value) → a ≡ gives v → Had v) → readOf (valueRead a) ≡ a
+read-back : (a : Answer Value) → NoZero a → ((v : Value) → a ≡ gives v → Had v) → readOf (valueRead a) ≡ a
 read-back (gives v) h k = ap gives (k v refl)
 read-back (refuses number place) h k = answer-refused number place _ h
 
@@ -146,4 +146,4 @@ pub read-tells : (s t : List ℕ) → AreBytes s → AreBytes t → (place place
 read-tells s t a b place place′ = tells readOf (back s a place) (back t b place′)
   where
     back : (w : List ℕ) → AreBytes w → (p : ℕ) → readOf (valueRead (readAt w p)) ≡ readAt w p
-    back w h p = read-back (readAt w p) (numbered refl (read-in w p)) (λ v. read-had w h v p)
+    back w h p = read-back (readAt w p) (no-zero refl (read-in w p)) (λ v. read-had w h v p)

@@ -228,10 +228,10 @@ module _ (s : List ℕ) (b : AreBytes s) (p : Part) (inside : p .offset + p .siz
       → CodesOf s (tagFor t) p (holding s v)
   unfolding content framed row
   content-codes Boolean f e = of-bool f e
-  content-codes Int32 f e = of-number 4 i32 int32 f refl (λ v b. i32-ranged v _ (omega arith)) i32-back e
+  content-codes Int32 f e = of-number 4 i32 int32 f refl (λ w a. i32-ranged w _ (omega arith)) i32-back e
   content-codes Double f e = of-number 8 le64 double f refl le64-below bytes64-back e
-  content-codes Int64 f e = of-number 8 i64 int64 f refl (λ v b. i64-ranged v) i64-back e
-  content-codes DateTime f e = of-number 8 i64 dateTime f refl (λ v b. i64-ranged v) i64-back e
+  content-codes Int64 f e = of-number 8 i64 int64 f refl (λ w a. i64-ranged w) i64-back e
+  content-codes DateTime f e = of-number 8 i64 dateTime f refl (λ w a. i64-ranged w) i64-back e
   content-codes Timestamp f e = of-timestamp f e
   content-codes ObjectId f e = known 0x07 _ e (record { tagged = refl; good = refl; fitting = size-is 12 f; value = refl })
   content-codes Decimal128 f e = known 0x13 _ e (record { tagged = refl; good = refl; fitting = size-is 16 f; value = refl })

@@ -336,15 +336,15 @@ join-in first second buffer =
     room-in (leb size (room (length buffer))) size buffer _ tt
 
 -- a refusal by no 0, so that 0 can tell that there is none
-abbrev pub Numbered : {A : Type 0} → Answer A → Type 0
-Numbered (gives a) = Unit
-Numbered (refuses n p) = 0 < n
+abbrev pub NoZero : {A : Type 0} → Answer A → Type 0
+NoZero (gives a) = Unit
+NoZero (refuses n p) = 0 < n
 
 -- a list without 0
 pub one-above : (ms : List ℕ) (n : ℕ) → oneOf ms 0 ≡ false → oneOf ms n ≡ true → 0 < n
 one-above ms zero z h = absurd (true≢false (sym h ∙ z))
 one-above ms (suc n) z h = omega arith
 
-pub numbered : {A : Type 0} {ms : List ℕ} {x : Answer A} → oneOf ms 0 ≡ false → RefusesIn ms x → Numbered x
-numbered z given = tt
-numbered {ms = ms} z (by {n = n} h) = one-above ms n z h
+pub no-zero : {A : Type 0} {ms : List ℕ} {x : Answer A} → oneOf ms 0 ≡ false → RefusesIn ms x → NoZero x
+no-zero z given = tt
+no-zero {ms = ms} z (by {n = n} h) = one-above ms n z h

@@ -1,4 +1,4 @@
--- Determined: the promise of `by_window` allows one answer. Assumes nothing.
+-- Determined: the promise of `by_window` allows one answer (document 01, "What every answer is bound to"). Assumes nothing.
 use mathlib.Core.Path.{sym, _∙_}
 use contract.Lifetimes.{Lfts}
 use borrow.Fn.Kinds.{Dens}

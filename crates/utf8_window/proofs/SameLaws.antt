@@ -1,4 +1,4 @@
--- SameLaws: tests of equality, of Bools, ranges and lists. Assumes nothing.
+-- Tests of equality, of Bools, of the ranges of a row and of lists of them (document 01, module 1). Assumes nothing.
 use mathlib.Core.Path.{_≡_, refl, subst, sym}
 use mathlib.Core.List.{List, [], _∷_}
 use mathlib.Core.Bool.{Bool, true, false, not, _&&_, _||_, Bool·beq}
