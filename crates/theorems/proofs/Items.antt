@@ -44,7 +44,7 @@ pub sized-by : (tag : ℕ) (t : ElementType) (v : List ℕ) → typeOf tag ≡ g
 unfolding valueSize
 sized-by tag t v e = then-from _ _ (type-sized tag t e)
 
-pub value-by : (s : List ℕ) (tag : ℕ) (t : ElementType) (p : Part) → typeOf tag ≡ gives t → p .offset + p .size ≤ length s
+value-by : (s : List ℕ) (tag : ℕ) (t : ElementType) (p : Part) → typeOf tag ≡ gives t → p .offset + p .size ≤ length s
     → valueIn s tag p ≡ content s p t
 unfolding valueIn
 value-by s tag t p e inside = rw (le-leb _ _ inside) (then-from _ _ e)

@@ -43,7 +43,7 @@ holding-opens s (document p) = refl
 holding-opens s (array p) = refl
 holding-opens s (codeWithScope c p) = refl
 
-abbrev pub spot : List ℕ → Level → ℕ → ℕ → Spot
+abbrev spot : List ℕ → Level → ℕ → ℕ → Spot
 spot s l position offset = record { document = s; level = l; position = position; offset = offset }
 
 -- where a step yields a value that is not too deep, under a key that passes, the walk counts it with those inside, and goes on
