@@ -115,6 +115,17 @@ pub data Elements : Type 0 where
   leaf : (key : List ℕ) → Item → Elements → Elements
   nest : Nest → (key : List ℕ) (inner rest : Elements) → Elements
 
+-- elements behind others, and how many there are, those inside them not counted
+abbrev pub behind : Elements → Elements → Elements
+behind none t = t
+behind (leaf key v rest) t = leaf key v (behind rest t)
+behind (nest n key inner rest) t = nest n key inner (behind rest t)
+
+abbrev pub count : Elements → ℕ
+count none = 0
+count (leaf key v rest) = suc (count rest)
+count (nest n key inner rest) = suc (count rest)
+
 -- the tag, "e_name ::= cstring", and the value
 unfoldable pub elementBytes : ℕ → List ℕ → List ℕ → List ℕ
 elementBytes tag key value = tag ∷ (key ++ (0 ∷ value))

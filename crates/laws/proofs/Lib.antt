@@ -17,6 +17,7 @@ pub mod OutputLaws
 pub mod DecimalLaws
 pub mod GrammarLaws
 pub mod GrammarBack
+pub mod TreeLaws
 pub mod WriterWords
 pub mod WriterLaws
 pub mod WriterRefusals

@@ -10,19 +10,18 @@ use lib.Seq.{take-all}
 use Rattle.bson.specs.Answer.{gives}
 use Rattle.bson.specs.Cstring.{validCstr}
 use Rattle.bson.specs.Decimal.{decimal}
-use Rattle.bson.specs.Grammar.{Item, row, Embedded, document, embedded, scope, isArray, Elements, none, leaf, nest}
-use Rattle.bson.specs.Grammar.{elementBytes, listBytes, treeBytes, Shallow, InOrder}
-use Rattle.bson.specs.Grammar.{Numbered}
+use Rattle.bson.specs.Grammar.{Item, row, Embedded, document, embedded, scope, isArray, Elements, none, leaf, nest, elementBytes, listBytes}
+use Rattle.bson.specs.Grammar.{treeBytes, Shallow, InOrder, Numbered, behind, count}
 use Rattle.bson.specs.Writer.{fresh, used, room, Desk, desk, roomOf, Call, openTop, close, append, openNest, answer}
-use Rattle.theorems.specs.ReadBack.{Open, opened, Building, building, built, behind, count, with, keyFor, after, Session, next, turn}
+use Rattle.theorems.specs.ReadBack.{Open, opened, Building, building, built, with, keyFor, after, Session, next, turn}
 use Rattle.theorems.specs.ReadBack.{run, begin, Typed, Accepted, Unscoped, Writable, Builds, WriterBuilds}
 use Rattle.laws.proofs.Common.{split}
 use Rattle.laws.proofs.GrammarLaws.{length-document}
 use Rattle.laws.proofs.WriterWords.{fresh-words}
 use Rattle.laws.proofs.WriterLaws.{room-small, bytes-behind}
+use Rattle.laws.proofs.TreeLaws.{behind-none, behind-behind, count-behind, none-length, leaf-length, nest-length}
 use Rattle.theorems.proofs.Holds.{shown, many, Holds}
-use Rattle.theorems.proofs.Shown.{behind-none, behind-behind, count-behind, none-length, leaf-length, nest-length, shown-with}
-use Rattle.theorems.proofs.Shown.{shown-top, shown-nested}
+use Rattle.theorems.proofs.Shown.{shown-with, shown-top, shown-nested}
 use Rattle.theorems.proofs.Trace.{top-holds, append-holds, open-holds, close-holds, close-top}
 use Rattle.theorems.proofs.Taken.{append-taken, nest-taken, close-taken, top-taken}
 

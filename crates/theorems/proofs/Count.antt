@@ -20,8 +20,7 @@ use Rattle.laws.proofs.ReadLaws.{read-step, read-says}
 use Rattle.laws.proofs.StepLaws.{step-yields}
 use Rattle.laws.proofs.AdvanceLaws.{ended-at}
 use Rattle.laws.proofs.CheckLaws.{Visited, walk-eq}
-use Rattle.theorems.proofs.Spots.{walkAt, left, Inner, plain, deep, Walked, ended, more, walked-says}
-use Rattle.theorems.proofs.Spots.{opens-deeper, one-element}
+use Rattle.theorems.proofs.Spots.{walkAt, left, Inner, plain, deep, Walked, ended, more, walked-says, opens-deeper, one-element}
 
 -- from one spot one comes to another; `Comes` grows at its far end, this at the near one, where a walk begins
 data Leads : Spot → Spot → Type 0 where

@@ -6,9 +6,9 @@ use mathlib.Core.List.{List, [], _∷_, _++_}
 use lib.ListN.{length, take}
 use lib.Seq.{length-take-le}
 use Rattle.bson.specs.Answer.{gives}
-use Rattle.bson.specs.Grammar.{bytes32, Embedded, document, array, embedded, nestTag, elementBytes, listBytes}
+use Rattle.bson.specs.Grammar.{bytes32, Embedded, document, array, embedded, nestTag, elementBytes, listBytes, count}
 use Rattle.bson.specs.Writer.{State, used, depth, start, mark, Kind, inDocument, inArray, kindOf, Desk}
-use Rattle.theorems.specs.ReadBack.{Open, count}
+use Rattle.theorems.specs.ReadBack.{Open}
 
 -- the bytes of open documents, innermost first: each has 5 for its length, and its end is still to come
 unfoldable pub shown : List Open → List ℕ

@@ -1,10 +1,10 @@
 -- A session of the writer makes a good tree, and what it closes reads back as that tree (demand 2; document 01, "Writer and joining").
 -- Assumes nothing.
-use Prim.Native.Nat.{ℕ, suc, _+_, _≤_, _<_}
+use Prim.Native.Nat.{ℕ, _+_, _≤_, _<_}
 use mathlib.Core.Path.{_≡_, refl, ap, subst, _∙_}
 use mathlib.Core.List.{List, [], _∷_}
 use mathlib.Core.Bool.{Bool, true, false, cond}
-use native.Mathlib.Nat.{add-zero, zero-add}
+use native.Mathlib.Nat.{zero-add}
 use native.Mathlib.Numerals.{add-one}
 use native.Mathlib.Omega.{arith}
 use lib.ListN.{length, take}
@@ -12,38 +12,19 @@ use Rattle.bson.specs.Answer.{Answer, gives, refuses}
 use Rattle.bson.specs.Cstring.{validCstr}
 use Rattle.bson.specs.Decimal.{decimal}
 use Rattle.bson.specs.Grammar.{bytes32, Item, row, Embedded, document, array, embedded, nestTag, isArray, Elements, none, leaf, nest}
-use Rattle.bson.specs.Grammar.{listBytes, treeBytes, Shallow, Fitting, InOrder, Numbered}
+use Rattle.bson.specs.Grammar.{count, listBytes, treeBytes, Shallow, Fitting, InOrder, Numbered}
 use Rattle.bson.specs.Writer.{fresh, used, depth, Kind, Desk, desk, roomOf, keyPasses, Call, openTop, close, append, openNest, answer}
-use Rattle.theorems.specs.ReadBack.{Open, opened, Building, unopened, building, built, behind, count, with, keyFor, after, Session, next}
+use Rattle.theorems.specs.ReadBack.{Open, opened, Building, unopened, building, built, with, keyFor, after, Session, next}
 use Rattle.theorems.specs.ReadBack.{turn, run, begin, Typed, ReadsBack, Stands, WriterReadsBack}
 use Rattle.laws.proofs.DecimalLaws.{decimal-valid}
 use Rattle.laws.proofs.GrammarLaws.{length-document}
+use Rattle.laws.proofs.TreeLaws.{ordered-behind, shallow-behind, keys-behind}
 use Rattle.laws.proofs.WriterWords.{fresh-closed}
 use Rattle.laws.proofs.WriterLaws.{possible-says, top-used, innermost-says, Appended, appended-says, opened-says, topped-says, closed-says}
 use Rattle.theorems.proofs.Holds.{kindFor, Holds}
 use Rattle.theorems.proofs.Means.{means-back}
 use Rattle.theorems.proofs.Passes.{plain-asked, means-passes}
 use Rattle.theorems.proofs.Trace.{kind-is, top-holds, append-holds, open-holds, close-holds, close-top}
-
--- an element behind others: the tree stays a good one
-
-ordered-behind : (t more : Elements) → InOrder t → InOrder more → InOrder (behind t more)
-ordered-behind none more g h = h
-ordered-behind (leaf key v rest) more g h = (g .0, (g .1 .0, (g .1 .1 .0, ordered-behind rest more (g .1 .1 .1) h)))
-ordered-behind (nest n key inner rest) more g h = (g .0, (g .1 .0, (g .1 .1 .0, ordered-behind rest more (g .1 .1 .1) h)))
-
-shallow-behind : (level : ℕ) (t more : Elements) → Shallow level t → Shallow level more → Shallow level (behind t more)
-shallow-behind level none more g h = h
-shallow-behind level (leaf key v rest) more g h = (g .0, shallow-behind level rest more (g .1) h)
-shallow-behind level (nest n key inner rest) more g h = (g .0, (g .1 .0, shallow-behind level rest more (g .1 .1) h))
-
-numbered-behind : (inArray : Bool) (i : ℕ) (t more : Elements) → Numbered inArray i t → Numbered inArray (i + count t) more
-    → Numbered inArray i (behind t more)
-numbered-behind inArray i none more g h = rw add-zero at h
-numbered-behind inArray i (leaf key v rest) more g h =
-    (g .0, numbered-behind inArray (suc i) rest more (g .1) (subst (λ (k : ℕ). Numbered inArray k more) (omega arith) h))
-numbered-behind inArray i (nest n key inner rest) more g h =
-    (g .0, (g .1 .0, numbered-behind inArray (suc i) rest more (g .1 .1) (subst (λ (k : ℕ). Numbered inArray k more) (omega arith) h)))
 
 -- the elements of an open document are a good tree of values this deep
 record Sound (o : Open) (level : ℕ) : Type 0 where
@@ -67,7 +48,7 @@ sound-with : (o : Open) (level : ℕ) (t : Elements) → Sound o level → InOrd
     → Sound (with o t) level
 sound-with o level t s g n h = record {
   ordered = ordered-behind (o .inside) t (s .ordered) g;
-  numbered = numbered-behind (isArray (embedded (o .nest))) 0 (o .inside) t (s .numbered) (rw zero-add n);
+  numbered = keys-behind (λ i key. key ≡ decimal i) (isArray (embedded (o .nest))) 0 (o .inside) t (s .numbered) (rw zero-add n);
   shallow = shallow-behind level (o .inside) t (s .shallow) h;
 }
 

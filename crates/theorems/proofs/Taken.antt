@@ -8,15 +8,16 @@ use lib.ListN.{length}
 use borrow.Author.Tests.{le-leb}
 use Rattle.bson.specs.Answer.{gives}
 use Rattle.bson.specs.Cstring.{validCstr}
-use Rattle.bson.specs.Grammar.{bytes32, Item, row, Embedded, document, array, embedded, nestTag, elementBytes}
+use Rattle.bson.specs.Grammar.{bytes32, Item, row, Embedded, document, array, embedded, nestTag, elementBytes, count}
 use Rattle.bson.specs.Writer.{State, fresh, used, depth, mark, kindOf, kindHolds, stand, possible, Desk, desk, roomOf, innermost}
 use Rattle.bson.specs.Writer.{keyPasses, openTop, close, append, openNest, answer}
 use Rattle.laws.proofs.GrammarLaws.{length-bytes32, length-element}
 use Rattle.laws.proofs.WriterWords.{fresh-closed}
 use Rattle.laws.proofs.WriterLaws.{stand-gives, possible-gives, innermost-gives, Appended, appended-gives, opened-gives, topped-gives, closed-gives}
-use Rattle.theorems.specs.ReadBack.{Open, count, keyFor}
+use Rattle.laws.proofs.TreeLaws.{count-within}
+use Rattle.theorems.specs.ReadBack.{Open, keyFor}
 use Rattle.theorems.proofs.Holds.{shown, startOf, kindFor, kindIs, Tied, many, Holds}
-use Rattle.theorems.proofs.Shown.{count-within, shown-length, start-nested}
+use Rattle.theorems.proofs.Shown.{shown-length, start-nested}
 use Rattle.theorems.proofs.Trace.{last-is, key-in}
 
 -- no state of open documents is impossible

@@ -11,23 +11,21 @@ use lib.Seq.{getD-set-same, getD-set-other}
 use Rattle.bson.specs.Answer.{gives}
 use Rattle.bson.specs.Decimal.{decimal}
 use Rattle.bson.specs.Output.{put}
-use Rattle.bson.specs.Grammar.{bytes32, Item, row, Embedded, document, array, embedded, nestTag, isArray, Elements, none, leaf, nest}
-use Rattle.bson.specs.Grammar.{elementBytes}
-use Rattle.bson.specs.Grammar.{documentOf, listBytes, treeBytes}
+use Rattle.bson.specs.Grammar.{bytes32, Item, row, Embedded, document, array, embedded, nestTag, isArray, Elements, none, leaf, nest, elementBytes}
+use Rattle.bson.specs.Grammar.{documentOf, listBytes, treeBytes, behind, count}
 use Rattle.bson.specs.Writer.{State, fresh, used, depth, startAt, start, markAt, mark, Kind, inArray, kindOf, markOf, Desk, desk, roomOf, innermost, popped}
 use Rattle.bson.specs.Writer.{keyIn, grown, pushed, close, openTop, append, openNest, answer}
-use Rattle.theorems.specs.ReadBack.{Open, opened, behind, count, with, keyFor}
+use Rattle.theorems.specs.ReadBack.{Open, opened, with, keyFor}
 use Rattle.laws.proofs.AnswerLaws.{gives-injective}
 use Rattle.laws.proofs.GrammarLaws.{length-bytes32, length-document}
 use Rattle.laws.proofs.OutputLaws.{length-put, take-put, take-put-in, put-over}
-use Rattle.laws.proofs.WriterWords.{onceMore, fresh-words, grown-words, grown-used, grown-other, grown-depth, grown-mark}
-use Rattle.laws.proofs.WriterWords.{pushed-words, pushed-other, pushed-used, pushed-depth, pushed-start, pushed-mark}
-use Rattle.laws.proofs.WriterWords.{popped-words, popped-used, popped-depth, popped-other}
+use Rattle.laws.proofs.WriterWords.{onceMore, fresh-words, grown-words, grown-used, grown-other, grown-depth, grown-mark, pushed-words, pushed-other}
+use Rattle.laws.proofs.WriterWords.{pushed-used, pushed-depth, pushed-start, pushed-mark, popped-words, popped-used, popped-depth, popped-other}
 use Rattle.laws.proofs.WriterLaws.{room-within, innermost-says, sizes, taken, Appended, appended-says, opened-says, topped-says}
 use Rattle.laws.proofs.WriterLaws.{sealed, closed-says, bytes-behind}
+use Rattle.laws.proofs.TreeLaws.{count-behind, leaf-bytes, none-length}
 use Rattle.theorems.proofs.Holds.{shown, startOf, kindFor, kindIs, Tied, HoldsAll, many, Holds}
-use Rattle.theorems.proofs.Shown.{count-behind, leaf-bytes, none-length, shown-with, start-with, shown-opened, front, shown-front}
-use Rattle.theorems.proofs.Shown.{start-front, front-tree, shown-length, shown-top}
+use Rattle.theorems.proofs.Shown.{shown-with, start-with, shown-opened, front, shown-front, start-front, front-tree, shown-length, shown-top}
 
 -- the words
 

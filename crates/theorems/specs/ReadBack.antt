@@ -8,7 +8,7 @@ use Rattle.bson.specs.Answer.{Answer, gives, refuses}
 use Rattle.bson.specs.Check.{check}
 use Rattle.bson.specs.Decimal.{decimal}
 use Rattle.bson.specs.Grammar.{Embedded, document, embedded, scope, isArray, Elements, none, leaf, nest}
-use Rattle.bson.specs.Grammar.{treeBytes, size, Shallow, Fitting, Good, Numbered}
+use Rattle.bson.specs.Grammar.{behind, count, treeBytes, size, Shallow, Fitting, Good, Numbered}
 use Rattle.bson.specs.Meaning.{Means}
 use Rattle.bson.specs.Writer.{fresh, used, depth, Desk, desk, Call, openTop, close, append, openNest, answer}
 
@@ -26,17 +26,6 @@ pub data Building : Type 0 where
   unopened : Building
   building : (innermost : Open) (around : List Open) → Building
   built : Elements → Building
-
--- an element behind others
-abbrev pub behind : Elements → Elements → Elements
-behind none t = t
-behind (leaf key v rest) t = leaf key v (behind rest t)
-behind (nest n key inner rest) t = nest n key inner (behind rest t)
-
-abbrev pub count : Elements → ℕ
-count none = 0
-count (leaf key v rest) = suc (count rest)
-count (nest n key inner rest) = suc (count rest)
 
 abbrev pub with : Open → Elements → Open
 with o t = opened (o .nest) (o .key) (behind (o .inside) t)

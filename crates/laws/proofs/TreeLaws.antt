@@ -1,0 +1,94 @@
+-- Trees: elements behind others, and the bytes of elements (BSON 1.1, `e_list`). Assumes nothing.
+use Prim.Native.Nat.{ℕ, suc, _+_, _≤_}
+use mathlib.Core.Path.{_≡_, refl, sym, ap, subst, _∙_}
+use mathlib.Core.List.{List, _++_, append-assoc, append-nil}
+use mathlib.Core.Bool.{Bool}
+use native.Mathlib.Nat.{add-zero}
+use native.Mathlib.Omega.{arith}
+use lib.ListN.{length, length-append}
+use Rattle.bson.specs.Grammar.{Item, row, Embedded, embedded, nestTag, nestBytes, Elements, none, leaf, nest, behind, count}
+use Rattle.bson.specs.Grammar.{elementBytes, listBytes, treeBytes, Shallow, InOrder, ArrayKeys}
+use Rattle.laws.proofs.GrammarLaws.{length-document, length-element}
+
+-- elements behind others
+
+pub behind-none : (t : Elements) → behind t none ≡ t
+behind-none none = refl
+behind-none (leaf key v rest) = ap (leaf key v) (behind-none rest)
+behind-none (nest n key inner rest) = ap (nest n key inner) (behind-none rest)
+
+pub behind-behind : (a b c : Elements) → behind (behind a b) c ≡ behind a (behind b c)
+behind-behind none b c = refl
+behind-behind (leaf key v rest) b c = ap (leaf key v) (behind-behind rest b c)
+behind-behind (nest n key inner rest) b c = ap (nest n key inner) (behind-behind rest b c)
+
+pub count-behind : (t more : Elements) → count (behind t more) ≡ count t + count more
+count-behind none more = omega arith
+count-behind (leaf key v rest) more = omega (arith, count-behind rest more)
+count-behind (nest n key inner rest) more = omega (arith, count-behind rest more)
+
+pub list-behind : (t more : Elements) → listBytes (behind t more) ≡ listBytes t ++ listBytes more
+unfolding listBytes
+list-behind none more = refl
+list-behind (leaf key v rest) more =
+    let e = elementBytes (row v .tag) key (row v .value) in
+    ap (λ (l : List ℕ). e ++ l) (list-behind rest more) ∙ sym (append-assoc e (listBytes rest) (listBytes more))
+list-behind (nest n key inner rest) more =
+    let e = elementBytes (nestTag n) key (nestBytes n (treeBytes inner)) in
+    ap (λ (l : List ℕ). e ++ l) (list-behind rest more) ∙ sym (append-assoc e (listBytes rest) (listBytes more))
+
+-- the bytes of elements
+
+pub leaf-bytes : (key : List ℕ) (v : Item) → listBytes (leaf key v none) ≡ elementBytes (row v .tag) key (row v .value)
+unfolding listBytes
+leaf-bytes key v = append-nil (elementBytes (row v .tag) key (row v .value))
+
+pub nest-bytes : (n : Embedded) (key : List ℕ) (inner : Elements) → listBytes (nest (embedded n) key inner none) ≡ elementBytes (nestTag (embedded n)) key (treeBytes inner)
+unfolding listBytes
+nest-bytes n key inner = append-nil (elementBytes (nestTag (embedded n)) key (treeBytes inner))
+
+pub none-length : length (listBytes none) ≡ 0
+unfolding listBytes
+none-length = refl
+
+pub leaf-length : (key : List ℕ) (v : Item) (rest : Elements)
+    → length (listBytes (leaf key v rest)) ≡ length (elementBytes (row v .tag) key (row v .value)) + length (listBytes rest)
+unfolding listBytes
+leaf-length key v rest = length-append (elementBytes (row v .tag) key (row v .value)) (listBytes rest)
+
+pub nest-length : (n : Embedded) (key : List ℕ) (inner rest : Elements)
+    → length (listBytes (nest (embedded n) key inner rest)) ≡ 7 + length key + length (listBytes inner) + length (listBytes rest)
+unfolding listBytes
+nest-length n key inner rest =
+    let e = elementBytes (nestTag (embedded n)) key (treeBytes inner) in
+    omega (arith, length-append e (listBytes rest), length-element (nestTag (embedded n)) key (treeBytes inner), length-document (listBytes inner))
+
+pub count-within : (t : Elements) → count t ≤ length (listBytes t)
+unfolding listBytes
+count-within none = omega arith
+count-within (leaf key v rest) =
+    omega (arith, leaf-length key v rest, length-element (row v .tag) key (row v .value), count-within rest)
+count-within (nest n key inner rest) =
+    let value = nestBytes n (treeBytes inner) in
+    let e = elementBytes (nestTag n) key value in
+    omega (arith, length-append e (listBytes rest), length-element (nestTag n) key value, count-within rest)
+
+-- what holds of two lists of elements holds of the one behind the other
+
+pub ordered-behind : (t more : Elements) → InOrder t → InOrder more → InOrder (behind t more)
+ordered-behind none more g h = h
+ordered-behind (leaf key v rest) more g h = (g .0, (g .1 .0, (g .1 .1 .0, ordered-behind rest more (g .1 .1 .1) h)))
+ordered-behind (nest n key inner rest) more g h = (g .0, (g .1 .0, (g .1 .1 .0, ordered-behind rest more (g .1 .1 .1) h)))
+
+pub shallow-behind : (level : ℕ) (t more : Elements) → Shallow level t → Shallow level more → Shallow level (behind t more)
+shallow-behind level none more g h = h
+shallow-behind level (leaf key v rest) more g h = (g .0, shallow-behind level rest more (g .1) h)
+shallow-behind level (nest n key inner rest) more g h = (g .0, (g .1 .0, shallow-behind level rest more (g .1 .1) h))
+
+pub keys-behind : (Asked : ℕ → List ℕ → Type 0) (inArray : Bool) (i : ℕ) (t more : Elements) → ArrayKeys Asked inArray i t
+    → ArrayKeys Asked inArray (i + count t) more → ArrayKeys Asked inArray i (behind t more)
+keys-behind Asked inArray i none more g h = rw add-zero at h
+keys-behind Asked inArray i (leaf key v rest) more g h =
+    (g .0, keys-behind Asked inArray (suc i) rest more (g .1) (subst (λ (k : ℕ). ArrayKeys Asked inArray k more) (omega arith) h))
+keys-behind Asked inArray i (nest n key inner rest) more g h =
+    (g .0, (g .1 .0, keys-behind Asked inArray (suc i) rest more (g .1 .1) (subst (λ (k : ℕ). ArrayKeys Asked inArray k more) (omega arith) h)))
