@@ -2,7 +2,6 @@
 use Prim.Native.Nat.{_-_}
 use mathlib.Core.Path.{refl}
 use native.Mathlib.Omega.{arith}
-use borrow.Author.Needs.{needs}
 use lib.ListN.{length}
 use Rattle.utf8.proofs.TextLaws.{At, at-char, at-none, at-end}
 use Rattle.utf8.proofs.by_chars.Statement.{statement}
@@ -18,25 +17,25 @@ loop-holds : tie.Need-loop-holds Inv-loop μ-loop
 loop-holds c = record { inside = omega arith; same = refl }
 
 sub-char-len : tie.Need-sub-char-len Inv-loop μ-loop
-sub-char-len c = search needs
+sub-char-len c = omega arith
 
 part-char-len-start : tie.Need-part-char-len-start Inv-loop μ-loop
-part-char-len-start c = search needs
+part-char-len-start c = omega arith
 
 part-char-len-end : tie.Need-part-char-len-end Inv-loop μ-loop
-part-char-len-end c = search needs
+part-char-len-end c = omega arith
 
 char-len-requires : tie.Need-char-len-requires Inv-loop μ-loop
-char-len-requires c κs = search needs
+char-len-requires c κs = omega arith
 
 returns : tie.Need-returns Inv-loop μ-loop
 returns c = at-none (c .before .before .before .before .loop .inv) (c .before .char-len .ensures) (c .if1 .taken)
 
 add-i : tie.Need-add-i Inv-loop μ-loop
-add-i c = search needs
+add-i c = omega arith
 
 loop-less : tie.Need-loop-less Inv-loop μ-loop
-loop-less c = search needs
+loop-less c = omega arith
 
 loop-again : tie.Need-loop-again Inv-loop μ-loop
 loop-again c = at-char (c .before .before .before .before .loop .inv) (c .before .char-len .ensures) (c .if1 .left)

@@ -2,7 +2,6 @@
 use Prim.Native.Nat.{_-_}
 use mathlib.Core.Path.{refl, sym, _∙_}
 use native.Mathlib.Omega.{arith}
-use borrow.Author.Needs.{needs}
 use borrow.Author.Tests.{not-false}
 use lib.ListN.{length}
 use Rattle.utf8.proofs.TextLaws.{At, at-rest, at-block}
@@ -19,40 +18,40 @@ loop-holds : tie.Need-loop-holds Inv-loop μ-loop
 loop-holds c = record { inside = omega arith; same = refl }
 
 sub-loop : tie.Need-sub-loop Inv-loop μ-loop
-sub-loop c = search needs
+sub-loop c = omega arith
 
 add-e : tie.Need-add-e Inv-loop μ-loop
-add-e c = search needs
+add-e c = omega arith
 
 sub-ascii : tie.Need-sub-ascii Inv-loop μ-loop
-sub-ascii c = search needs
+sub-ascii c = omega arith
 
 part-ascii-start : tie.Need-part-ascii-start Inv-loop μ-loop
-part-ascii-start c = search needs
+part-ascii-start c = omega arith
 
 part-ascii-end : tie.Need-part-ascii-end Inv-loop μ-loop
-part-ascii-end c = search needs
+part-ascii-end c = omega arith
 
 ascii-requires : tie.Need-ascii-requires Inv-loop μ-loop
-ascii-requires c κs = search needs
+ascii-requires c κs = tt
 
 sub-by-chars : tie.Need-sub-by-chars Inv-loop μ-loop
-sub-by-chars c = search needs
+sub-by-chars c = omega arith
 
 part-by-chars-start : tie.Need-part-by-chars-start Inv-loop μ-loop
-part-by-chars-start c = search needs
+part-by-chars-start c = omega arith
 
 part-by-chars-end : tie.Need-part-by-chars-end Inv-loop μ-loop
-part-by-chars-end c = search needs
+part-by-chars-end c = omega arith
 
 by-chars-requires : tie.Need-by-chars-requires Inv-loop μ-loop
-by-chars-requires c κs = search needs
+by-chars-requires c κs = tt
 
 returns : tie.Need-returns Inv-loop μ-loop
 returns c = at-rest (c .before .before .before .before .before .before .loop .inv) (c .by-chars .ensures)
 
 loop-less : tie.Need-loop-less Inv-loop μ-loop
-loop-less c = search needs
+loop-less c = omega arith
 
 loop-again : tie.Need-loop-again Inv-loop μ-loop
 loop-again c =
@@ -60,16 +59,16 @@ loop-again c =
     at-block 8 8 (omega arith) (c .before .before .before .before .loop .inv) (omega arith) e
 
 sub-by-chars-2 : tie.Need-sub-by-chars-2 Inv-loop μ-loop
-sub-by-chars-2 c = search needs
+sub-by-chars-2 c = omega arith
 
 part-by-chars-start-2 : tie.Need-part-by-chars-start-2 Inv-loop μ-loop
-part-by-chars-start-2 c = search needs
+part-by-chars-start-2 c = omega arith
 
 part-by-chars-end-2 : tie.Need-part-by-chars-end-2 Inv-loop μ-loop
-part-by-chars-end-2 c = search needs
+part-by-chars-end-2 c = omega arith
 
 by-chars-requires-2 : tie.Need-by-chars-requires-2 Inv-loop μ-loop
-by-chars-requires-2 c κs = search needs
+by-chars-requires-2 c κs = tt
 
 returns-2 : tie.Need-returns-2 Inv-loop μ-loop
 returns-2 c = at-rest (c .before .before .before .loop .inv) (c .by-chars2 .ensures)

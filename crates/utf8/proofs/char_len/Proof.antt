@@ -11,7 +11,7 @@ use Rattle.utf8.proofs.char_len.Statement.{statement}
 use Rattle.utf8.proofs.char_len.Tie as tie
 
 shared-slice-read-b : tie.Need-shared-slice-read-b
-shared-slice-read-b c = search needs
+shared-slice-read-b c = omega arith
 
 returns : tie.Need-returns
 unfolding rows
@@ -22,28 +22,28 @@ unfolding rows
 returns-2 c = begun 0x80 0xC2 tt told-bad (search needs)
 
 two-requires : tie.Need-two-requires
-two-requires c κs = search needs
+two-requires c κs = tt
 
 returns-3 : tie.Need-returns-3
 unfolding rows
 returns-3 c = begun 0xC2 0xE0 tt (c .two .ensures) (search needs)
 
 three-requires : tie.Need-three-requires
-three-requires c κs = search needs
+three-requires c κs = tt
 
 returns-4 : tie.Need-returns-4
 unfolding rows
 returns-4 c = begun 0xE0 0xE1 tt (c .three .ensures) (search needs)
 
 three-requires-2 : tie.Need-three-requires-2
-three-requires-2 c κs = search needs
+three-requires-2 c κs = tt
 
 returns-5 : tie.Need-returns-5
 unfolding rows
 returns-5 c = begun 0xED 0xEE tt (c .three2 .ensures) (search needs)
 
 three-requires-3 : tie.Need-three-requires-3
-three-requires-3 c κs = search needs
+three-requires-3 c κs = tt
 
 returns-6 : tie.Need-returns-6
 unfolding rows
@@ -54,21 +54,21 @@ returns-6 c =
     (λ p. let h = ltb-false b 0xED p in begun 0xEE 0xF0 tt (c .three3 .ensures) (search needs))
 
 four-requires : tie.Need-four-requires
-four-requires c κs = search needs
+four-requires c κs = tt
 
 returns-7 : tie.Need-returns-7
 unfolding rows
 returns-7 c = begun 0xF0 0xF1 tt (c .four .ensures) (search needs)
 
 four-requires-2 : tie.Need-four-requires-2
-four-requires-2 c κs = search needs
+four-requires-2 c κs = tt
 
 returns-8 : tie.Need-returns-8
 unfolding rows
 returns-8 c = begun 0xF1 0xF4 tt (c .four2 .ensures) (search needs)
 
 four-requires-3 : tie.Need-four-requires-3
-four-requires-3 c κs = search needs
+four-requires-3 c κs = tt
 
 returns-9 : tie.Need-returns-9
 unfolding rows

@@ -1,5 +1,5 @@
 -- `utf8::in_range` meets its contract: a test of the length, then of the byte. Assumes nothing.
-use borrow.Author.Needs.{needs}
+use native.Mathlib.Omega.{arith}
 use borrow.Author.Tests.{le-ltb, lt-ltb}
 use Rattle.utf8.specs.Chars.{inRange}
 use Rattle.utf8.proofs.in_range.Statement.{statement}
@@ -10,7 +10,7 @@ unfolding inRange
 returns c = rw (le-ltb _ _ (c .if1 .taken))
 
 shared-slice-read-b : tie.Need-shared-slice-read-b
-shared-slice-read-b c = search needs
+shared-slice-read-b c = omega arith
 
 returns-2 : tie.Need-returns-2
 unfolding inRange

@@ -2,7 +2,6 @@
 use Prim.Native.Nat.{_+_, _-_}
 use mathlib.Core.Path.{_≡_, refl, sym, _∙_}
 use native.Mathlib.Omega.{arith}
-use borrow.Author.Needs.{needs}
 use borrow.Author.Tests.{not-false}
 use lib.ListN.{length}
 use Rattle.utf8.proofs.TextLaws.{At, at-rest, at-block}
@@ -19,43 +18,43 @@ loop-holds : tie.Need-loop-holds Inv-loop μ-loop
 loop-holds c = (record { inside = omega arith; same = refl }, record { inside = omega arith; same = refl })
 
 sub-loop : tie.Need-sub-loop Inv-loop μ-loop
-sub-loop c = search needs
+sub-loop c = omega arith
 
 add-e : tie.Need-add-e Inv-loop μ-loop
-add-e c = search needs
+add-e c = omega arith
 
 sub-ascii : tie.Need-sub-ascii Inv-loop μ-loop
-sub-ascii c = search needs
+sub-ascii c = omega arith
 
 part-ascii-start : tie.Need-part-ascii-start Inv-loop μ-loop
-part-ascii-start c = search needs
+part-ascii-start c = omega arith
 
 part-ascii-end : tie.Need-part-ascii-end Inv-loop μ-loop
-part-ascii-end c = search needs
+part-ascii-end c = omega arith
 
 ascii-requires : tie.Need-ascii-requires Inv-loop μ-loop
-ascii-requires c κs = search needs
+ascii-requires c κs = tt
 
 sub-mixed : tie.Need-sub-mixed Inv-loop μ-loop
-sub-mixed c = search needs
+sub-mixed c = omega arith
 
 part-mixed-start : tie.Need-part-mixed-start Inv-loop μ-loop
-part-mixed-start c = search needs
+part-mixed-start c = omega arith
 
 part-mixed-end : tie.Need-part-mixed-end Inv-loop μ-loop
-part-mixed-end c = search needs
+part-mixed-end c = omega arith
 
 mixed-requires : tie.Need-mixed-requires Inv-loop μ-loop
-mixed-requires c κs = search needs
+mixed-requires c κs = tt
 
 returns : tie.Need-returns Inv-loop μ-loop
 returns c = at-rest (c .before .before .before .before .before .before .loop .inv .0) (c .mixed .ensures)
 
 sub-k : tie.Need-sub-k Inv-loop μ-loop
-sub-k c = search needs
+sub-k c = omega arith
 
 loop-less : tie.Need-loop-less Inv-loop μ-loop
-loop-less c = search needs
+loop-less c = omega arith
 
 loop-again : tie.Need-loop-again Inv-loop μ-loop
 loop-again c =
@@ -65,16 +64,16 @@ loop-again c =
     (rw k (at-block 29 32 (omega arith) (l .inv .1) (omega arith) e), at-block 32 32 (omega arith) (l .inv .1) (omega arith) e)
 
 sub-by-eights : tie.Need-sub-by-eights Inv-loop μ-loop
-sub-by-eights c = search needs
+sub-by-eights c = omega arith
 
 part-by-eights-start : tie.Need-part-by-eights-start Inv-loop μ-loop
-part-by-eights-start c = search needs
+part-by-eights-start c = omega arith
 
 part-by-eights-end : tie.Need-part-by-eights-end Inv-loop μ-loop
-part-by-eights-end c = search needs
+part-by-eights-end c = omega arith
 
 by-eights-requires : tie.Need-by-eights-requires Inv-loop μ-loop
-by-eights-requires c κs = search needs
+by-eights-requires c κs = tt
 
 returns-2 : tie.Need-returns-2 Inv-loop μ-loop
 returns-2 c = at-rest (c .before .before .before .loop .inv .1) (c .by-eights .ensures)
