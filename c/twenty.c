@@ -1,3 +1,4 @@
+/* Checks a frame, looks up its battery, and prints it. */
 #include <fringewell.h>
 #include <inttypes.h>
 #include <stdio.h>

@@ -1,6 +1,6 @@
 #!/usr/bin/env python3
 """Makes the check program's inputs and, by document 01's rules (tools/rules.py), what it must print of each: samples/NAME.bson and
-samples/NAME.txt. samples/beacon.bson comes from tools/make_beacon.py.
+samples/NAME.txt.
 
 usage: tools/make_samples.py                  writes the files
        tools/make_samples.py --check          the files are what the rules say
@@ -10,8 +10,8 @@ import os
 import sys
 
 import rules
+from beacon import beacon
 from documents import BATTERY, NULL, SAMPLED, TRY, doc, element, le, nested, text
-from make_beacon import beacon
 from rules import Refused
 
 ROOT = os.path.join(os.path.dirname(os.path.abspath(__file__)), "..")

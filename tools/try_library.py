@@ -13,15 +13,12 @@ made wrong, each of which must show as a difference.
 usage: tools/try_library.py ARCHIVE                the static library; needs cc
        tools/try_library.py --smallest ARCHIVE     of a library that may be wrong: prints the smallest question that differs, if one does
 """
-import ctypes
-import faulthandler
-import mmap
 import struct
 import subprocess
 import sys
 from array import array
-from ctypes import c_size_t, c_uint8, c_uint32, c_uint64, c_void_p
-from itertools import chain, product
+from itertools import accumulate, chain, islice, product, repeat
+from pathlib import Path
 from tempfile import TemporaryDirectory
 from unittest.mock import patch
 
@@ -36,23 +33,18 @@ from writing import hexed, replayed, session
 
 # ---- the boundary
 
-
-def numbers(names):
-    """A struct of 64-bit numbers."""
-    return type("Numbers", (ctypes.Structure,), {"_fields_": [(name, c_uint64) for name in names.split(" ")]})
-
-
-VERDICT = numbers("number place count")
-FOUND = numbers("number place tag offset size")
-JOINED = numbers("number place which length")
-STEPPED = numbers("number place ended next tag key_offset key_size offset size")
-VALUE = numbers("number place tag bits offset size offset2 size2")
-WRITTEN = numbers("number used")
-WRITER = type("Writer", (ctypes.Structure,), {"_fields_": [("words", c_uint32 * 406)]})
+# what is returned: 64-bit numbers, by their names
+VERDICT = "number place count".split(" ")
+FOUND = "number place tag offset size".split(" ")
+JOINED = "number place which length".split(" ")
+STEPPED = "number place ended next tag key_offset key_size offset size".split(" ")
+VALUE = "number place tag bits offset size offset2 size2".split(" ")
+WRITTEN = "number used".split(" ")
+WRITER = ["words"] * 203  # two of the state's 406 in each
 
 # kinds of arguments: bytes and their size, bytes of a known size, a state and a buffer to write in; numbers of 64 bits, of 32 or one, and of 8
 SLICE, ARRAY, STATE, OUT, WHOLE, HALF, BYTE = "slice", "array", "state", "out", "whole", "half", "byte"
-PASSED = {SLICE: (c_void_p, c_size_t), ARRAY: (c_void_p,), STATE: (c_void_p,), OUT: (c_void_p, c_size_t)}
+LENT = (SLICE, ARRAY, STATE, OUT)
 CALL = (WRITTEN, STATE, OUT)
 FUNCTIONS = {
     "check": (VERDICT, SLICE),
@@ -88,6 +80,7 @@ FUNCTIONS = {
     "append_object_id": (*CALL, SLICE, ARRAY),
     "append_decimal128": (*CALL, SLICE, ARRAY),
 }
+NUMBERED = {name: i for i, name in enumerate(FUNCTIONS)}
 # the words of a session whose function is not named `append_` and the word
 NAMED = {"open": "writer_open", "close": "writer_close", "document": "writer_open_document", "array": "writer_open_array"}
 NAMED |= {"boolean": "append_bool", "minkey": "append_min_key", "maxkey": "append_max_key", "objectid": "append_object_id"}
@@ -101,64 +94,73 @@ class End(bytes):
     START = 2147483647 - 64
 
 
-class Area:
-    """Memory that is lent, up against a page that may not be touched: the program ends where it is."""
+# ---- calls, made by tools/try_library.c, a program that is linked with the library
 
-    SIZE = 128 * mmap.PAGESIZE
+ON_X86_64 = Path(__file__).with_name("on_x86_64")
+ASKED = struct.Struct("<22Q")  # that program's `asked`
+ENDS = [area << 32 for area in range(1, 6)]  # where its areas end
+WORDS = 9
+UNSPOILED = 2**64 - 1  # the number of no byte
+BATCH = 5000  # questions to one run of it
 
-    def __init__(self):
-        self.pages = mmap.mmap(-1, self.SIZE + mmap.PAGESIZE)
-        self.end = ctypes.addressof(ctypes.c_char.from_buffer(self.pages)) + self.SIZE
-        if ctypes.CDLL(None).mprotect(c_void_p(self.end), c_size_t(mmap.PAGESIZE), 0):
-            sys.exit("a page can't be protected")
 
-    def lend(self, data):
-        self.pages[self.SIZE - len(data) : self.SIZE] = data
-        return self.end - len(data)
+def ways(name):
+    """Whether the bytes of a call lie near each other: a call that copies is made both ways."""
+    return (False, True) if OUT in FUNCTIONS[name] else (False,)
+
+
+def lend(kinds, held, near):
+    """What each area holds and how many of its last bytes may be written, and where each argument's bytes lie, NULL where there are none. Near, the
+    buffer lies right behind what may be copied into it."""
+    beside = sorted((i for i in held if near and kinds[i] != STATE), key=lambda i: kinds[i] == OUT)
+    groups = [*([i] for i in held if i not in beside), *([beside] if near else [])]
+    areas, at = [], {}
+    for group, end in zip(groups, ENDS):
+        data = b"".join(held[i] for i in group)
+        areas.append((data, len(held[group[-1]]) if kinds[group[-1]] in (STATE, OUT) else 0))
+        address = end - len(data)
+        for i in group:
+            at[i] = address if data else 0
+            address += len(held[i])
+    return areas, at
+
+
+def packed_call(name, args, near, spoiled):
+    """A call as the program reads it, and the size of its answer: what is returned, the state, and the buffer with its guards."""
+    answer, *kinds = FUNCTIONS[name]
+    held = {i: GUARD + arg + GUARD if kinds[i] == OUT else arg for i, arg in enumerate(args) if kinds[i] in LENT}
+    areas, at = lend(kinds, held, near)
+    words = []
+    for i, (kind, arg) in enumerate(zip(kinds, args)):
+        if kind == OUT:
+            start = getattr(arg, "START", 0)
+            words += at[i] + len(GUARD) - start, start + len(arg)
+        elif kind in LENT:
+            words += (at[i], len(arg)) if kind == SLICE else (at[i],)
+        else:
+            words.append(arg if kind == WHOLE else arg | UPPER)
+    words += [0] * (WORDS - len(words))
+    sizes = [n for data, written in areas for n in (len(data), written)] + [0, 0] * (len(ENDS) - len(areas))
+    asked = ASKED.pack(NUMBERED[name], 8 * len(answer), spoiled, *words, *sizes)
+    return b"".join([asked, *(data for data, _ in areas)]), 8 * len(answer) + sum(sizes[1::2])
 
 
 class Library:
-    def __init__(self, archive):
-        with TemporaryDirectory() as folder:
-            shared = f"{folder}/fringewell.so"
-            subprocess.run(["cc", "-shared", "-o", shared, "-Wl,--whole-archive", archive, "-Wl,--no-whole-archive"], check=True)
-            loaded = ctypes.CDLL(shared)
-        self.functions = {name: loaded[f"fringewell_{name}"] for name in FUNCTIONS}
-        for name, (answer, *kinds) in FUNCTIONS.items():
-            self.functions[name].restype = answer
-            self.functions[name].argtypes = [t for kind in kinds for t in PASSED.get(kind, (c_uint64,))]
-        self.areas = [Area() for _ in range(max(map(len, FUNCTIONS.values())))]
-        self.spoil = lambda regions: None
+    def __init__(self, archive, folder):
+        self.program = f"{folder}/try_library"
+        each = "".join(f"F({name})" for name in FUNCTIONS)
+        source = Path(__file__).with_suffix(".c")
+        subprocess.run([ON_X86_64, "cc", "-O2", "-Wall", "-Wextra", "-Werror", f"-DEACH(F)={each}", source, archive, "-o", self.program], check=True)
 
-    def lend(self, kinds, held, near):
-        """Where each argument's bytes are lent, NULL where there are none; near, the buffer lies right behind what may be copied into it."""
-        at = {i: area.lend(data) if data else 0 for area, (i, data) in zip(self.areas, held.items())}
-        if near:
-            beside = sorted((i for i in held if kinds[i] != STATE), key=lambda i: kinds[i] == OUT)
-            address = self.areas[-1].lend(b"".join(held[i] for i in beside))
-            for i in beside:
-                at[i] = address
-                address += len(held[i])
-        return at
-
-    def call(self, name, *args, near=False):
-        """The bytes of what is returned, then those of the state and of the buffer with its guards."""
-        kinds = FUNCTIONS[name][1:]
-        held = {i: GUARD + arg + GUARD if kinds[i] == OUT else arg for i, arg in enumerate(args) if kinds[i] in PASSED}
-        at = self.lend(kinds, held, near)
-        passed = []
-        for i, (kind, arg) in enumerate(zip(kinds, args)):
-            if kind == OUT:
-                start = getattr(arg, "START", 0)
-                passed += at[i] + len(GUARD) - start, start + len(arg)
-            elif kind in PASSED:
-                passed += (at[i], len(arg))[: len(PASSED[kind])]
-            else:
-                passed.append(arg if kind == WHOLE else arg | UPPER)
-        answer = self.functions[name](*passed)
-        regions = [(ctypes.addressof(answer), ctypes.sizeof(answer)), *((at[i], len(held[i])) for i in held if kinds[i] in (STATE, OUT))]
-        self.spoil(regions)
-        return b"".join(ctypes.string_at(*region) for region in regions)
+    def answers(self, calls):
+        """What each call returned and left behind. One that ends the program ends this tool too."""
+        asked, sizes = zip(*(packed_call(*c) for c in calls))
+        ran = subprocess.run([ON_X86_64, self.program], input=b"".join(asked), stdout=subprocess.PIPE)
+        ends = [*accumulate(sizes)]
+        if ran.returncode:
+            name, args, *_ = next(c for c, end in zip(calls, ends) if end > len(ran.stdout))
+            sys.exit(f"differs: {in_c(name, args)}\n  library: ends the program, with status {ran.returncode}")
+        return [ran.stdout[end - size : end] for end, size in zip(ends, sizes)]
 
 
 # ---- questions: a function, its arguments, and the bytes that the rules make of its answer
@@ -166,7 +168,7 @@ class Library:
 
 def packed(answer, *fields):
     """A struct's bytes; fields that are not given are 0."""
-    return struct.pack(f"<{len(answer._fields_)}Q", *fields, *[0] * (len(answer._fields_) - len(fields)))
+    return struct.pack(f"<{len(answer)}Q", *fields, *[0] * (len(answer) - len(fields)))
 
 
 def said(rule, *args):
@@ -471,7 +473,7 @@ def shown(arg):
     """Bytes in hexadecimal, a state without the zeros at its end."""
     if not isinstance(arg, bytes):
         return str(arg)
-    return (arg.rstrip(b"\0") if len(arg) == ctypes.sizeof(WRITER) else arg).hex() or "-"
+    return (arg.rstrip(b"\0") if len(arg) == 8 * len(WRITER) else arg).hex() or "-"
 
 
 def in_words(name, memory):
@@ -479,24 +481,33 @@ def in_words(name, memory):
     answer, *kinds = FUNCTIONS[name]
     if answer is WRITER:
         return shown(memory)
-    fields = [f"{field} {n}" for (field, _), (n,) in zip(answer._fields_, struct.iter_unpack("<Q", memory[: ctypes.sizeof(answer)]))]
-    rest = memory[ctypes.sizeof(answer) :]
-    state = ctypes.sizeof(WRITER) if STATE in kinds else 0
+    size = 8 * len(answer)
+    fields = [f"{field} {n}" for field, (n,) in zip(answer, struct.iter_unpack("<Q", memory[:size]))]
+    rest = memory[size:]
+    state = 8 * len(WRITER) if STATE in kinds else 0
     return ", ".join([*fields, *(shown(part) for part in (rest[:state], rest[state:]) if part)])
 
 
+def in_c(name, args):
+    return f"fringewell_{name}({', '.join(map(shown, args))})"
+
+
 def report(name, args, answer, expected):
-    return f"differs: fringewell_{name}({', '.join(map(shown, args))})\n  library: {in_words(name, answer)}\n  rules:   {in_words(name, expected)}"
+    return f"differs: {in_c(name, args)}\n  library: {in_words(name, answer)}\n  rules:   {in_words(name, expected)}"
+
+
+def answered(library, questions, spoils=repeat(UNSPOILED)):
+    """Each question with the library's answer, of two the one that differs."""
+    asked = zip(questions, spoils)
+    while batch := [*islice(asked, BATCH)]:
+        answers = iter(library.answers([(name, args, near, n) for (name, args, _), n in batch for near in ways(name)]))
+        for (name, args, expected), _ in batch:
+            given = [next(answers) for _ in ways(name)]
+            yield name, args, next((answer for answer in given if answer != expected), expected), expected
 
 
 def differing(library, questions):
-    """The questions whose answer differs. A call that copies is made with its bytes far apart and with them near each other."""
-    for name, args, expected in questions:
-        for near in (False, True) if OUT in FUNCTIONS[name] else (False,):
-            answer = library.call(name, *args, near=near)
-            if answer != expected:
-                yield name, args, answer, expected
-                break
+    return (q for q in answered(library, questions) if q[2] != q[3])
 
 
 def kinds_of_questions():
@@ -512,13 +523,13 @@ def compare(library):
     """Whether all answers are alike; and of each function and number the first question."""
     asked = differ = 0
     firsts = {}
-    for q in chain.from_iterable(kinds_of_questions()):
+    for name, args, answer, expected in answered(library, chain.from_iterable(kinds_of_questions())):
         asked += 1
-        firsts.setdefault((q[0], q[2][0]), q)
-        for difference in differing(library, [q]):
+        firsts.setdefault((name, expected[0]), (name, args, expected))
+        if answer != expected:
             differ += 1
             if differ <= 5:
-                print(report(*difference))
+                print(report(name, args, answer, expected))
     print(f"{asked - differ} answers of the library as document 01's rules say, {differ} differ")
     return differ == 0, firsts
 
@@ -553,31 +564,14 @@ REFUSALS = {
 } | {NAMED.get(word, f"append_{word}"): returned for word, returned in RETURNED.items()}
 
 
-def spoiling(n):
-    """Changes the n-th byte of an answer."""
-
-    def spoil(regions):
-        i = n
-        for address, size in regions:
-            if 0 <= i < size:
-                c_uint8.from_address(address + i).value ^= 1
-            i -= size
-
-    return spoil
-
-
 def try_bytes(library, firsts):
     """Each byte of an answer is compared, whichever number it has."""
     assert firsts.keys() == {(name, n) for name, refusals in REFUSALS.items() for n in {0, *refusals}}, firsts.keys()
-    tried = 0
-    for q in firsts.values():
-        for n in range(len(q[2])):
-            library.spoil = spoiling(n)
-            tried += 1
-            if not any(differing(library, [q])):
-                sys.exit(f"not reported: byte {n} of the answer changed in {report(*q, q[2])}")
-    library.spoil = lambda regions: None
-    return tried
+    spoiled = [(q, n) for q in firsts.values() for n in range(len(q[2]))]
+    for (_, n), (*q, answer, expected) in zip(spoiled, answered(library, *zip(*spoiled))):
+        if answer == expected:
+            sys.exit(f"not reported: byte {n} of the answer changed in {report(*q, answer, expected)}")
+    return len(spoiled)
 
 
 def zero_tag_ends(s, offset, right=rules.step):
@@ -658,15 +652,15 @@ def try_rules(library):
 def main():
     if len(sys.argv) not in (2, 3) or sys.argv[1:-1] not in ([], ["--smallest"]):
         sys.exit(__doc__)
-    faulthandler.enable()
-    library = Library(sys.argv[-1])
-    if len(sys.argv) == 3:
-        smallest(library)
-        return
-    alike, firsts = compare(library)
-    if not alike:
-        sys.exit(1)
-    print(f"each of {try_bytes(library, firsts)} changed bytes of an answer is reported, and each of {try_rules(library)} wrong rules")
+    with TemporaryDirectory() as folder:
+        library = Library(sys.argv[-1], folder)
+        if len(sys.argv) == 3:
+            smallest(library)
+            return
+        alike, firsts = compare(library)
+        if not alike:
+            sys.exit(1)
+        print(f"each of {try_bytes(library, firsts)} changed bytes of an answer is reported, and each of {try_rules(library)} wrong rules")
 
 
 if __name__ == "__main__":

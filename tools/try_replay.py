@@ -6,6 +6,7 @@ usage: tools/try_replay.py VECTORS     the built program
 """
 import subprocess
 import sys
+from pathlib import Path
 
 from make_cases import documents, line
 from questions import said_session
@@ -38,7 +39,8 @@ def wrong_lines(text):
 
 
 def replay(lines):
-    return subprocess.run([sys.argv[1]], input="".join(f"{t}\n" for t in lines), capture_output=True, text=True, check=True).stdout.splitlines()
+    program = [Path(__file__).with_name("on_x86_64"), sys.argv[1]]
+    return subprocess.run(program, input="".join(f"{t}\n" for t in lines), capture_output=True, text=True, check=True).stdout.splitlines()
 
 
 def try_documents():

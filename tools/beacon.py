@@ -1,16 +1,8 @@
-#!/usr/bin/env python3
-"""Makes samples/beacon.bson: a decoded frame as the ground station gets it, battery first, with some forty keys.
-
-usage: tools/make_beacon.py            writes the file
-       tools/make_beacon.py --check    the file is what this script makes
-"""
-import os
+"""A decoded frame as the ground station gets it, battery first, with some forty keys; tools/make_samples.py writes it to samples/beacon.bson."""
 import struct
-import sys
 
 from documents import ARRAY, DOCUMENT, INT32, NULL, doc, element, le, text, with_scope
 
-SAMPLE = os.path.join(os.path.dirname(os.path.abspath(__file__)), "..", "samples", "beacon.bson")
 HEARD = 1794715680000  # when the frame was heard, in milliseconds
 
 
@@ -131,15 +123,3 @@ def radio():
 
 def beacon():
     return doc(*head(), *housekeeping(), *attitude(), *radio())
-
-
-def main():
-    if "--check" not in sys.argv[1:]:
-        open(SAMPLE, "wb").write(beacon())
-    made = os.path.exists(SAMPLE) and open(SAMPLE, "rb").read() == beacon()
-    print(f"samples/beacon.bson: {len(beacon())} bytes" + ("" if made else ", and the file differs"))
-    sys.exit(0 if made else 1)
-
-
-if __name__ == "__main__":
-    main()
