@@ -2,9 +2,7 @@
 use Prim.Native.Nat.{ℕ}
 use mathlib.Core.Path.{_≡_, refl}
 use mathlib.Core.List.{List, [], _∷_, _++_, append-nil}
-use mathlib.Core.Bool.{Bool, true, false, cond}
 use lib.ListN.{length, getD}
-use mir.Val.{boolByte}
 use Rattle.bson.specs.Grammar.{bytes32}
 
 -- a word, and another
@@ -19,8 +17,3 @@ words m n p q e f = rw (e, f)
 pub eight : (m n : ℕ) → 8 ≡ length (bytes32 m ++ bytes32 n)
 unfolding bytes32
 eight m n = refl
-
--- a boolean's byte
-pub truth : (b : Bool) → boolByte b ∷ [] ≡ cond b 1 0 ∷ []
-truth true = refl
-truth false = refl

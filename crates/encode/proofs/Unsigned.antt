@@ -43,22 +43,16 @@ module _ (w : Width) (z : ℤ) (f : SFits w z) where
   abbrev read : ℤ
   read = toZ w (ofZ w z)
 
-  again : read ≡ z
-  again = toZ-ofZ w z f
-
-  pub passed : (half : ℕ) {r : ℕ} → r ≡ unsigned half read → r ≡ unsigned half z
-  passed half e = e ∙ ap (unsigned half) again
-
   module _ (t : leZ (pos 0) read ≡ true) where
     pub positive-casts : T (nonNeg read) × Fits w (natAbs read)
-    positive-casts = rw again (casts w z f (rw again at t))
+    positive-casts = rw (toZ-ofZ w z f) (casts w z f (rw (toZ-ofZ w z f) at t))
 
     pub positive-stays : (half : ℕ) → natAbs read ≡ unsigned half z
-    positive-stays half = rw again (stays half z (rw again at t))
+    positive-stays half = rw (toZ-ofZ w z f) (stays half z (rw (toZ-ofZ w z f) at t))
 
   module _ (t : leZ (pos 0) read ≡ false) where
     counted : negsuc 0 -ℤ read ≡ pos (mag z)
-    counted = rw again (count z (rw again at t))
+    counted = rw (toZ-ofZ w z f) (count z (rw (toZ-ofZ w z f) at t))
 
     pub negative-fits : SFits w (negsuc 0 -ℤ read)
     negative-fits = rw counted (record { sfits = f .sfits })
@@ -77,4 +71,4 @@ module _ (w : Width) (z : ℤ) (f : SFits w z) where
       negative-below is = rw counter-is (omega (arith, f .sfits, is, et))
 
       pub negative-down : top - natAbs counter ≡ unsigned half z
-      negative-down = rw counter-is (down half top et z (rw again at t))
+      negative-down = rw counter-is (down half top et z (rw (toZ-ofZ w z f) at t))

@@ -2,10 +2,6 @@
 use Prim.Native.Nat.{ℕ}
 use mathlib.Core.Path.{_≡_, ap, _∙_}
 use mathlib.Core.List.{List}
-use lib.IntN.{ℤ}
-use mir.Syntax.{Width}
-use mir.Val.{SFits, toZ, ofZ}
-use mir.ValLaws.{toZ-ofZ}
 use Rattle.bson.specs.Join as paper
 use Rattle.bson.specs.Step.{Cursor, step, after}
 use Rattle.bson.specs.Writer as writer
@@ -33,10 +29,3 @@ pub performed-through : (c : writer.Call) (state exit-state buffer exit : List �
     → leaves n exit-state exit ≡ performs c state buffer
 unfolding performs
 performed-through c state exit-state buffer exit number n q e = rw (e, ← q)
-
--- the same of a signed number, which the code reads from its bits
-pub signed-through : (w : Width) (z : ℤ) (f : SFits w z) (c : ℤ → writer.Call) (state exit-state buffer exit : List ℕ) (number : ℕ) (n : WrittenNumbers)
-    → writer.written number exit-state exit ≡ writer.performed (c (toZ w (ofZ w z))) state buffer → n ≡ writtenBy number exit-state
-    → leaves n exit-state exit ≡ performs (c z) state buffer
-signed-through w z f c state exit-state buffer exit number n q e =
-    performed-through (c z) state exit-state buffer exit number n (q ∙ ap (λ (x : ℤ). writer.performed (c x) state buffer) (toZ-ofZ w z f)) e

@@ -1,4 +1,3 @@
-pub mod Truth
 pub mod Wide
 pub mod Read
 pub mod Determined

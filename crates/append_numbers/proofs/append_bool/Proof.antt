@@ -6,7 +6,7 @@ use Rattle.bson.specs.Writer.{answer, performed}
 use Rattle.bson.specs.Grammar.{row}
 use Rattle.appending.specs.Refusal.{appending}
 use Rattle.appending.proofs.Filled.{head-refused, head-ready, value-put}
-use Rattle.append_numbers.proofs.Words.{truth}
+use Rattle.encode.proofs.Basic.{boolean-byte}
 use borrow.Author.Needs.{needs}
 use Rattle.append_numbers.proofs.append_bool.Statement.{statement}
 use Rattle.append_numbers.proofs.append_bool.Tie as tie
@@ -42,7 +42,7 @@ returns c =
     let h = u .before .before .before .before .before in
     let s = h .before .before .before .before .before in
     value-put _ _ _ _ _ _ _ _ refl _ _ _ (h .head .ensures) (u .before .before .if1 .taken) (h .head .kept .0) _
-    (ap (λ (n : ℕ). n - 1) (u .used .ensures .0)) (_ ∷ []) (truth (s .args .b)) _ _ (p .put-text .ensures)
+    (ap (λ (n : ℕ). n - 1) (u .used .ensures .0)) (_ ∷ []) (ap (λ (n : ℕ). n ∷ []) (boolean-byte (s .args .b))) _ _ (p .put-text .ensures)
 
 same-length-2 : tie.Need-same-length-2
 same-length-2 c = search needs

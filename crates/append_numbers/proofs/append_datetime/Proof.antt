@@ -2,10 +2,10 @@
 use mathlib.Core.Path.{ap}
 use mir.Syntax.{w64}
 use Rattle.bson.specs.Writer.{answer, performed}
-use Rattle.bson.specs.Grammar.{row, bytes64}
+use Rattle.bson.specs.Grammar.{row, bytes64, unsigned}
 use Rattle.appending.specs.Refusal.{appending}
 use Rattle.appending.proofs.Valued.{valued}
-use Rattle.encode.proofs.Unsigned.{passed}
+use Rattle.encode.proofs.Basic.{passed}
 use Rattle.append_numbers.proofs.append_datetime.Statement.{statement}
 use Rattle.append_numbers.proofs.append_datetime.Tie as tie
 
@@ -23,7 +23,7 @@ unfolding performed answer row appending
 returns c =
     let v = c .before .before .before in
     let s = v .before .before .before .before .before in
-    let e = passed w64 (s .args .n) (s .fits .n) 0x8000_0000_0000_0000 (v .bits64 .ensures) in
+    let e = passed w64 (s .args .n) (s .fits .n) (unsigned 0x8000_0000_0000_0000) (v .bits64 .ensures) in
     valued _ _ _ _ _ _ (c .before .before .append-eight .ensures) (ap bytes64 e)
 
 pub append-datetime-spec : {M : Type 1} → statement M

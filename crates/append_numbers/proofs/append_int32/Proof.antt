@@ -4,11 +4,11 @@ use mathlib.Core.List.{[], _∷_}
 use mathlib.Core.Path.{ap, sym, _∙_}
 use mir.Syntax.{w32}
 use Rattle.bson.specs.Writer.{answer, performed}
-use Rattle.bson.specs.Grammar.{row, bytes32}
+use Rattle.bson.specs.Grammar.{row, bytes32, unsigned}
 use Rattle.laws.proofs.GrammarLaws.{length-bytes32}
 use Rattle.appending.specs.Refusal.{appending}
 use Rattle.appending.proofs.Filled.{head-refused, head-ready, value-put}
-use Rattle.encode.proofs.Unsigned.{passed}
+use Rattle.encode.proofs.Basic.{passed}
 use Rattle.append_numbers.proofs.Words.{word}
 use borrow.Author.Needs.{needs}
 use Rattle.append_numbers.proofs.append_int32.Statement.{statement}
@@ -44,7 +44,7 @@ returns c =
     let u = p .before .before .before in
     let h = u .before .before .before .before .before in
     let s = h .before .before .before .before .before in
-    let e = passed w32 (s .args .n) (s .fits .n) 0x8000_0000 (p .before .bits32 .ensures) in
+    let e = passed w32 (s .args .n) (s .fits .n) (unsigned 0x8000_0000) (p .before .bits32 .ensures) in
     value-put _ _ _ _ _ _ _ _ (sym (length-bytes32 _)) _ _ _ (h .head .ensures) (u .before .before .if1 .taken) (h .head .kept .0) _
     (ap (λ (n : ℕ). n - 4) (u .used .ensures .0)) (_ ∷ []) (word _ ∙ ap bytes32 e) _ _ (p .put-bytes32 .ensures)
 

@@ -1,10 +1,9 @@
 -- `doc_writer_numbers::append_datetime` meets its contract: what the call on lent words leaves. Assumes nothing.
-use mathlib.Core.Path.{ap, _∙_}
 use lib.IntN.{ℤ}
 use mir.Syntax.{w64}
-use mir.ValLaws.{toZ-ofZ}
 use Rattle.bson.specs.Value.{dateTime}
 use Rattle.bson.specs.Writer.{append, performed}
+use Rattle.encode.proofs.Basic.{passed}
 use Rattle.doc_writer_numbers.proofs.append_datetime.Statement.{statement}
 use Rattle.doc_writer_numbers.proofs.append_datetime.Tie as tie
 
@@ -18,8 +17,7 @@ returns : tie.Need-returns
 returns c =
     let s = c .before .before .before .before .before .before .before .before in
     let a = s .args in
-    c .before .before .append-datetime .ensures
-    ∙ ap (λ (z : ℤ). performed (append (a .key .now) (dateTime z)) (a .w .words) (a .out .now)) (toZ-ofZ w64 (a .n) (s .fits .n))
+    passed w64 (a .n) (s .fits .n) (λ (z : ℤ). performed (append (a .key .now) (dateTime z)) (a .w .words) (a .out .now)) (c .before .before .append-datetime .ensures)
 
 pub append-datetime-spec : {M : Type 1} → statement M
 append-datetime-spec = tie.close (tie.spec append-datetime-requires same-length returns)

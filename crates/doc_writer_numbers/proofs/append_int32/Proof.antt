@@ -1,10 +1,9 @@
 -- `doc_writer_numbers::append_int32` meets its contract: what the call on lent words leaves. Assumes nothing.
-use mathlib.Core.Path.{ap, _∙_}
 use lib.IntN.{ℤ}
 use mir.Syntax.{w32}
-use mir.ValLaws.{toZ-ofZ}
 use Rattle.bson.specs.Value.{int32}
 use Rattle.bson.specs.Writer.{append, performed}
+use Rattle.encode.proofs.Basic.{passed}
 use Rattle.doc_writer_numbers.proofs.append_int32.Statement.{statement}
 use Rattle.doc_writer_numbers.proofs.append_int32.Tie as tie
 
@@ -18,8 +17,7 @@ returns : tie.Need-returns
 returns c =
     let s = c .before .before .before .before .before .before .before .before in
     let a = s .args in
-    c .before .before .append-int32 .ensures
-    ∙ ap (λ (z : ℤ). performed (append (a .key .now) (int32 z)) (a .w .words) (a .out .now)) (toZ-ofZ w32 (a .n) (s .fits .n))
+    passed w32 (a .n) (s .fits .n) (λ (z : ℤ). performed (append (a .key .now) (int32 z)) (a .w .words) (a .out .now)) (c .before .before .append-int32 .ensures)
 
 pub append-int32-spec : {M : Type 1} → statement M
 append-int32-spec = tie.close (tie.spec append-int32-requires same-length returns)

@@ -1,10 +1,9 @@
 -- `doc_writer_numbers::append_int64` meets its contract: what the call on lent words leaves. Assumes nothing.
-use mathlib.Core.Path.{ap, _∙_}
 use lib.IntN.{ℤ}
 use mir.Syntax.{w64}
-use mir.ValLaws.{toZ-ofZ}
 use Rattle.bson.specs.Value.{int64}
 use Rattle.bson.specs.Writer.{append, performed}
+use Rattle.encode.proofs.Basic.{passed}
 use Rattle.doc_writer_numbers.proofs.append_int64.Statement.{statement}
 use Rattle.doc_writer_numbers.proofs.append_int64.Tie as tie
 
@@ -18,8 +17,7 @@ returns : tie.Need-returns
 returns c =
     let s = c .before .before .before .before .before .before .before .before in
     let a = s .args in
-    c .before .before .append-int64 .ensures
-    ∙ ap (λ (z : ℤ). performed (append (a .key .now) (int64 z)) (a .w .words) (a .out .now)) (toZ-ofZ w64 (a .n) (s .fits .n))
+    passed w64 (a .n) (s .fits .n) (λ (z : ℤ). performed (append (a .key .now) (int64 z)) (a .w .words) (a .out .now)) (c .before .before .append-int64 .ensures)
 
 pub append-int64-spec : {M : Type 1} → statement M
 append-int64-spec = tie.close (tie.spec append-int64-requires same-length returns)

@@ -2,8 +2,9 @@
 use lib.IntN.{ℤ}
 use mir.Syntax.{w64}
 use Rattle.bson.specs.Value.{int64}
-use Rattle.bson.specs.Writer.{append}
-use Rattle.fringewell.proofs.Through.{signed-through}
+use Rattle.bson.specs.Writer.{append, performed}
+use Rattle.encode.proofs.Basic.{passed}
+use Rattle.fringewell.proofs.Through.{performed-through}
 use Rattle.fringewell.proofs.fringewell_append_int64.Statement.{statement}
 use Rattle.fringewell.proofs.fringewell_append_int64.Tie as tie
 
@@ -20,7 +21,9 @@ returns : tie.Need-returns
 returns c =
     let a = c .before .before .before .before in
     let s = a .before .before .before .before .before in
-    signed-through w64 (s .args .n) (s .fits .n) (λ (n : ℤ). append (s .args .key .now) (int64 n)) _ _ _ _ _ _ (a .append-int64 .ensures) (c .of-written .ensures)
+    performed-through _ _ _ _ _ _ _
+    (passed w64 (s .args .n) (s .fits .n) (λ (n : ℤ). performed (append (s .args .key .now) (int64 n)) (s .args .words .now) (s .args .out .now)) (a .append-int64 .ensures))
+    (c .of-written .ensures)
 
 pub fringewell-append-int64-spec : {M : Type 1} → statement M
 fringewell-append-int64-spec =

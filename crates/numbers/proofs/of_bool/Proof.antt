@@ -1,6 +1,6 @@
 -- `numbers::of_bool` meets its contract: its byte. Assumes nothing.
 use borrow.Author.Needs.{needs}
-use Rattle.numbers.proofs.Truth.{byte-truth}
+use Rattle.encode.proofs.Basic.{boolean-byte}
 use Rattle.numbers.proofs.of_bool.Statement.{statement}
 use Rattle.numbers.proofs.of_bool.Tie as tie
 
@@ -8,7 +8,7 @@ cast-result : tie.Need-cast-result
 cast-result c = search needs
 
 returns : tie.Need-returns
-returns c = byte-truth (c .args .b)
+returns c = boolean-byte (c .args .b)
 
 pub of-bool-spec : {M : Type 1} → statement M
 of-bool-spec = tie.close (tie.spec cast-result returns)

@@ -1,6 +1,6 @@
 -- `numbers::of_empty` meets its contract: case by case. Assumes nothing.
 use borrow.Author.Needs.{needs}
-use Rattle.numbers.proofs.Truth.{byte-truth}
+use Rattle.encode.proofs.Basic.{boolean-byte}
 use Rattle.numbers.proofs.of_empty.Statement.{statement}
 use Rattle.numbers.proofs.of_empty.Tie as tie
 
@@ -17,7 +17,7 @@ cast-t6 : tie.Need-cast-t6
 cast-t6 c = search needs
 
 returns : tie.Need-returns
-returns c = rw (c .before .e .given .1, byte-truth (c .before .e .given .0 .0))
+returns c = rw (c .before .e .given .1, boolean-byte (c .before .e .given .0 .0))
 
 returns-2 : tie.Need-returns-2
 returns-2 c = rw (c .before .e2 .given .1)

@@ -1,6 +1,6 @@
 -- `numbers::of_step` meets its contract: case by case. Assumes nothing.
 use borrow.Author.Needs.{needs}
-use Rattle.numbers.proofs.Truth.{byte-truth}
+use Rattle.encode.proofs.Basic.{boolean-byte}
 use Rattle.numbers.proofs.of_step.Statement.{statement}
 use Rattle.numbers.proofs.of_step.Tie as tie
 
@@ -26,7 +26,7 @@ no-element-requires-2 : tie.Need-no-element-requires-2
 no-element-requires-2 c κs = tt
 
 returns : tie.Need-returns
-returns c = let y = c .before .before .before .before .before in rw (y .s .given .1, byte-truth (y .s .given .0 .1 .0 .ended))
+returns c = let y = c .before .before .before .before .before in rw (y .s .given .1, boolean-byte (y .s .given .0 .1 .0 .ended))
 
 returns-2 : tie.Need-returns-2
 returns-2 c = rw (c .before .before .s2 .given .1) (c .no-element .ensures)

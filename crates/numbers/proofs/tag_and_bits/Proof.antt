@@ -2,8 +2,8 @@
 use mathlib.Core.Path.{refl}
 use mir.Syntax.{w32, w64}
 use borrow.Author.Needs.{needs}
-use Rattle.encode.proofs.Unsigned.{passed}
-use Rattle.numbers.specs.Numbers.{tagOf, bitsOf}
+use Rattle.encode.proofs.Basic.{passed}
+use Rattle.numbers.specs.Numbers.{tagOf, bitsOf, signedBits}
 use Rattle.numbers.proofs.tag_and_bits.Statement.{statement}
 use Rattle.numbers.proofs.tag_and_bits.Tie as tie
 
@@ -124,7 +124,7 @@ returns-9 : tie.Need-returns-9
 unfolding tagOf bitsOf
 returns-9 c =
     let v = c .before .before in
-    rw (v .value4 .given .1) (refl, passed w64 (v .value4 .given .0 .0) (record { sfits = c .before .known-told4 .given .0 .1 }) 0x8000_0000_0000_0000 (c .bits64 .ensures))
+    rw (v .value4 .given .1) (refl, passed w64 (v .value4 .given .0 .0) (record { sfits = c .before .known-told4 .given .0 .1 }) signedBits (c .bits64 .ensures))
 
 returns-10 : tie.Need-returns-10
 unfolding tagOf bitsOf
@@ -154,7 +154,7 @@ returns-16 : tie.Need-returns-16
 unfolding tagOf bitsOf
 returns-16 c =
     let v = c .before .before in
-    rw (v .value5 .given .1) (refl, passed w32 (v .value5 .given .0 .0) (record { sfits = c .before .known-told5 .given .0 .1 }) 0x8000_0000_0000_0000 (c .of-int32 .ensures))
+    rw (v .value5 .given .1) (refl, passed w32 (v .value5 .given .0 .0) (record { sfits = c .before .known-told5 .given .0 .1 }) signedBits (c .of-int32 .ensures))
 
 returns-17 : tie.Need-returns-17
 unfolding tagOf bitsOf
@@ -164,7 +164,7 @@ returns-18 : tie.Need-returns-18
 unfolding tagOf bitsOf
 returns-18 c =
     let v = c .before .before in
-    rw (v .value7 .given .1) (refl, passed w64 (v .value7 .given .0 .0) (record { sfits = c .before .known-told7 .given .0 .1 }) 0x8000_0000_0000_0000 (c .bits642 .ensures))
+    rw (v .value7 .given .1) (refl, passed w64 (v .value7 .given .0 .0) (record { sfits = c .before .known-told7 .given .0 .1 }) signedBits (c .bits642 .ensures))
 
 returns-19 : tie.Need-returns-19
 unfolding tagOf bitsOf
