@@ -1,7 +1,6 @@
 //! Times the Rust, this library and libbson on the same bytes in one process; asserts that they agree, and nothing about time.
-//! usage: beside BEACON ROUNDS [SVG]     by bench/beside
+//! usage: beside FOLDER ROUNDS [SVG]     by bench/beside; FOLDER is what bench/rows.py writes
 
-mod documents;
 #[cfg(feature = "libbson")]
 mod libbson;
 mod ours;
@@ -16,6 +15,7 @@ mod table;
 use std::error::Error;
 
 use rounds::{run, Runner};
+use rows::{points, Folder};
 
 /// The room of the buffers that the sides build in.
 const ROOM: usize = 4096;
@@ -32,23 +32,21 @@ fn sides() -> Vec<Box<dyn Runner>> {
 
 fn main() -> Result<(), Box<dyn Error>> {
     let arguments: Vec<String> = std::env::args().collect();
-    let [_, beacon, rounds, drawing @ ..] = &arguments[..] else {
-        return Err("usage: beside BEACON ROUNDS [SVG]".into());
+    let [_, folder, rounds, drawing @ ..] = &arguments[..] else {
+        return Err("usage: beside FOLDER ROUNDS [SVG]".into());
     };
-    let beacon = std::fs::read(beacon)?;
-    let rounds: usize = rounds.parse()?;
-    let documents = rows::Documents::new(&beacon);
-    let (mut rows, mut sides) = (documents.rows(), sides());
+    let (folder, rounds) = (Folder::read(folder)?, rounds.parse()?);
+    let (mut rows, mut sides) = (folder.rows("rows"), sides());
     let split = rows.len();
-    rows.extend(documents.growth());
+    rows.extend(folder.rows("growth"));
     run(&mut rows, &mut sides, rounds);
     let (rows, growth) = rows.split_at(split);
-    let points = documents.points(growth);
+    let points = points(growth);
 
     println!("the best of {rounds} rounds");
     table::print(rows);
     table::print_growth(&points);
-    println!("\n{}", documents.notes());
+    print!("\n{}", folder.notes());
     match drawing {
         [file] => Ok(std::fs::write(file, svg::draw(rows, &points))?),
         _ => Ok(()),

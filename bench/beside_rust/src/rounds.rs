@@ -16,26 +16,28 @@ pub enum Task<'a> {
     Iterate(&'a [u8]),
     Check(&'a [u8]),
     Lookup(&'a [u8], &'a str),
-    Build(&'a [Piece<'a>], Given),
+    Build(Vec<Piece<'a>>, Given),
 }
 
 /// A side as the rounds see it.
 pub trait Runner {
-    /// So many turns: nanoseconds a turn, and the sum of the answers.
-    fn batch(&mut self, task: &Task, turns: u64) -> (f64, u64);
+    /// So many turns: the sum of the answers.
+    fn take(&mut self, task: &Task, turns: u64) -> u64;
 
     fn built(&self) -> &[u8];
 }
 
 impl<S: Side> Runner for S {
-    fn batch(&mut self, task: &Task, turns: u64) -> (f64, u64) {
+    fn take(&mut self, task: &Task, turns: u64) -> u64 {
         match *task {
-            Task::Iterate(document) => timed(turns, || self.iterate(black_box(document))),
-            Task::Check(document) => timed(turns, || self.check(black_box(document))),
+            Task::Iterate(document) => repeated(turns, || self.iterate(black_box(document))),
+            Task::Check(document) => repeated(turns, || self.check(black_box(document))),
             Task::Lookup(document, key) => {
-                timed(turns, || self.lookup(black_box(document), black_box(key)))
+                repeated(turns, || self.lookup(black_box(document), black_box(key)))
             }
-            Task::Build(pieces, given) => timed(turns, || self.build(black_box(pieces), given)),
+            Task::Build(ref pieces, given) => {
+                repeated(turns, || self.build(black_box(pieces), given))
+            }
         }
     }
 
@@ -44,18 +46,26 @@ impl<S: Side> Runner for S {
     }
 }
 
-fn timed(turns: u64, mut turn: impl FnMut() -> u64) -> (f64, u64) {
+fn repeated(turns: u64, mut turn: impl FnMut() -> u64) -> u64 {
     let mut sum = 0u64;
-    let start = Instant::now();
     for _ in 0..turns {
         sum = sum.wrapping_add(black_box(turn()));
     }
+    sum
+}
+
+/// So many turns: nanoseconds a turn, and the sum of the answers.
+fn timed(side: &mut dyn Runner, task: &Task, turns: u64) -> (f64, u64) {
+    let start = Instant::now();
+    let sum = side.take(task, turns);
     (start.elapsed().as_nanos() as f64 / turns as f64, sum)
 }
 
 /// A task with what each side answers and its best time so far.
 pub struct Row<'a> {
-    pub name: String,
+    pub name: &'a str,
+    /// The bytes of its document.
+    pub size: usize,
     task: Task<'a>,
     lanes: Vec<Lane>,
 }
@@ -67,9 +77,10 @@ struct Lane {
 }
 
 impl<'a> Row<'a> {
-    pub fn new(name: String, task: Task<'a>) -> Self {
+    pub fn new(name: &'a str, size: usize, task: Task<'a>) -> Self {
         Self {
             name,
+            size,
             task,
             lanes: Vec::new(),
         }
@@ -88,7 +99,7 @@ impl<'a> Row<'a> {
     /// Asks each side a few times, to see what it answers and how many turns make a batch.
     fn prepare(&mut self, sides: &mut [Box<dyn Runner>]) {
         for side in sides.iter_mut() {
-            let tries = [(); 5].map(|()| side.batch(&self.task, 1));
+            let tries = [(); 5].map(|()| timed(side.as_mut(), &self.task, 1));
             let least = tries.map(|(ns, _)| ns).into_iter().fold(BATCH_NS, f64::min);
             self.lanes.push(Lane {
                 answer: tries[0].1,
@@ -112,7 +123,7 @@ impl<'a> Row<'a> {
 
     fn round(&mut self, sides: &mut [Box<dyn Runner>]) {
         for (lane, side) in self.lanes.iter_mut().zip(sides) {
-            let (ns, sum) = side.batch(&self.task, lane.turns);
+            let (ns, sum) = timed(side.as_mut(), &self.task, lane.turns);
             assert_eq!(sum, lane.answer.wrapping_mul(lane.turns), "{}", self.name);
             lane.best = lane.best.min(ns);
         }

@@ -35,12 +35,10 @@ pub struct Piece<'a> {
     pub inside: Vec<Piece<'a>>,
 }
 
-/// The elements of a document; no code with scope, which the writer does not write.
+/// The elements of a document.
 pub fn pieces(document: &RawDocument) -> Vec<Piece<'_>> {
     let elements = document.iter().map(|step| step.expect("a whole document"));
-    let writable =
-        elements.filter(|(_, value)| !matches!(value, Value::JavaScriptCodeWithScope(_)));
-    writable
+    elements
         .map(|(key, value)| Piece {
             key,
             value,

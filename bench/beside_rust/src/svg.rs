@@ -99,7 +99,7 @@ impl Drawing {
         let ratio = row.ratio(0).unwrap_or(0.0);
         let wide = axis.at(ratio) - axis.from;
         let colour = if ratio < 1.0 { SLOWER } else { FASTER };
-        self.text((BARS.0 - 12.0, y + 20.0), "end", &row.name);
+        self.text((BARS.0 - 12.0, y + 20.0), "end", row.name);
         self.rectangle((BARS.0, y + 5.0), (wide, BAR - 10.0), colour);
         self.text((BARS.1 + 46.0, y + 20.0), "end", &format!("{ratio:.2}"));
     }

@@ -13,7 +13,7 @@ pub fn print(rows: &[Row]) {
     for row in rows {
         let [rust, ours, libbson] = [RUST, OURS, LIBBSON].map(|side| cell(row.ns(side), 1));
         let [by_rust, by_libbson] = [RUST, LIBBSON].map(|side| cell(row.ratio(side), 2));
-        line(&row.name, [&rust, &ours, &libbson, &by_rust, &by_libbson]);
+        line(row.name, [&rust, &ours, &libbson, &by_rust, &by_libbson]);
     }
     if rows.iter().all(|row| row.ns(LIBBSON).is_none()) {
         println!("libbson is left out: pkg-config finds no libbson-1.0.");
