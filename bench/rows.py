@@ -76,6 +76,7 @@ def rows():
     middle = keys[(len(keys) - 1) // 2]
     return [
         Row("iterate", "beacon", "", "beacon: iterate and read"),
+        Row("read_at_place", "beacon", "", "beacon: read at each place"),
         Row("check", "beacon", "", "beacon: whole check"),
         Row("lookup", "beacon", keys[0], "beacon: lookup, first key"),
         Row("lookup", "beacon", middle, "beacon: lookup, middle key"),
@@ -83,6 +84,7 @@ def rows():
         Row("build", "writable", "", "beacon: build, from bytes"),
         Row("build_tested", "writable", "", "beacon: build, Rust's texts tested"),
         Row("iterate", "many", "", "3,000 elements: iterate and read"),
+        Row("read_at_place", "many", "", "3,000 elements: read at each place"),
         Row("check", "many", "", "3,000 elements: whole check"),
         Row("lookup", "many", "t0002999", "3,000 elements: lookup, last key"),
         Row("check", "deep", "", "200 levels: whole check"),
@@ -100,6 +102,7 @@ def notes():
     return f"""beacon: samples/beacon.bson, {len(beacon())} bytes, {keys} keys at the top.
 3,000 elements: {len(elements(3000))} bytes of int32, double, string and int64. 200 levels: one document in the other.
 iterate and read: every step and every value of the top; in it and in lookups libbson tests no UTF-8.
+read at each place: the same, but Fringewell reads by fringewell_read, which steps to the element a second time.
 build: without the beacon's code with scope, which the writer does not write. Fringewell tests each key and
 text, and makes the keys of arrays; the Rust tests those that come as bytes, and has none to test where they
 were tested before; libbson tests none.

@@ -68,6 +68,7 @@ extern "C" {
     fn fringewell_check(document: *const u8, length: usize) -> Verdict;
     fn fringewell_lookup(document: *const u8, length: usize, key: *const u8, n: usize) -> Found;
     fn fringewell_step(document: *const u8, length: usize, offset: usize, ended: bool) -> Stepped;
+    fn fringewell_read(document: *const u8, length: usize, place: usize) -> Read;
     fn fringewell_value_of(
         document: *const u8,
         length: usize,
@@ -126,21 +127,11 @@ impl Ours {
 
 impl Side for Ours {
     fn iterate(&mut self, document: &[u8]) -> u64 {
-        let (bytes, length) = (document.as_ptr(), document.len());
-        let (mut offset, mut sum) = (4, 0u64);
-        loop {
-            let step = unsafe { fringewell_step(bytes, length, offset, false) };
-            assert_eq!(step.number, 0);
-            if step.ended != 0 {
-                return sum;
-            }
-            let value = value_of(document, &step);
-            assert_eq!(value.number, 0);
-            sum = sum
-                .wrapping_add(step.tag + step.key_size)
-                .wrapping_add(held(&value));
-            offset = step.next as usize;
-        }
+        top(document, value_of)
+    }
+
+    fn read_at_place(&mut self, document: &[u8]) -> u64 {
+        top(document, read_at)
     }
 
     fn check(&mut self, document: &[u8]) -> u64 {
@@ -169,6 +160,30 @@ impl Side for Ours {
     fn built(&self) -> &[u8] {
         &self.buffer[..self.used]
     }
+}
+
+/// Every step and every value of the top, read in this way.
+fn top(document: &[u8], read: impl Fn(&[u8], &Stepped) -> Read) -> u64 {
+    let (bytes, length) = (document.as_ptr(), document.len());
+    let (mut offset, mut sum) = (4, 0u64);
+    loop {
+        let step = unsafe { fringewell_step(bytes, length, offset, false) };
+        assert_eq!(step.number, 0);
+        if step.ended != 0 {
+            return sum;
+        }
+        let value = read(document, &step);
+        assert_eq!(value.number, 0);
+        sum = sum
+            .wrapping_add(step.tag + step.key_size)
+            .wrapping_add(held(&value));
+        offset = step.next as usize;
+    }
+}
+
+/// The value at the place of the element that a step gave.
+fn read_at(document: &[u8], step: &Stepped) -> Read {
+    unsafe { fringewell_read(document.as_ptr(), document.len(), step.place as usize) }
 }
 
 /// The value of the element that a step gave.

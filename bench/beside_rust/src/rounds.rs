@@ -14,6 +14,7 @@ const PASSES: usize = 20;
 /// What is timed.
 pub enum Task<'a> {
     Iterate(&'a [u8]),
+    ReadAtPlace(&'a [u8]),
     Check(&'a [u8]),
     Lookup(&'a [u8], &'a str),
     Build(Vec<Piece<'a>>, Given),
@@ -31,6 +32,9 @@ impl<S: Side> Runner for S {
     fn take(&mut self, task: &Task, turns: u64) -> u64 {
         match *task {
             Task::Iterate(document) => repeated(turns, || self.iterate(black_box(document))),
+            Task::ReadAtPlace(document) => {
+                repeated(turns, || self.read_at_place(black_box(document)))
+            }
             Task::Check(document) => repeated(turns, || self.check(black_box(document))),
             Task::Lookup(document, key) => {
                 repeated(turns, || self.lookup(black_box(document), black_box(key)))

@@ -63,6 +63,7 @@ fn task_of<'a>(task: &str, document: &'a [u8], key: &'a str) -> Task<'a> {
     };
     match task {
         "iterate" => Task::Iterate(document),
+        "read_at_place" => Task::ReadAtPlace(document),
         "check" => Task::Check(document),
         "lookup" => Task::Lookup(document, key),
         "build" => built(Given::Bytes),

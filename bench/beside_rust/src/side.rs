@@ -8,6 +8,11 @@ pub trait Side {
     /// Every step and every value of the top: the sum of tags, sizes of keys, and what the values hold.
     fn iterate(&mut self, document: &[u8]) -> u64;
 
+    /// The same by a call that reads at an element's place and knows nothing of the step; only this library has one.
+    fn read_at_place(&mut self, document: &[u8]) -> u64 {
+        self.iterate(document)
+    }
+
     /// The whole check: the number of values, or 1 from libbson, which does not count.
     fn check(&mut self, document: &[u8]) -> u64;
 
