@@ -1,6 +1,8 @@
 //! Times the Rust, this library and libbson on the same bytes in one process; asserts that they agree, and nothing about time.
-//! usage: beside FOLDER ROUNDS [SVG]     by bench/beside; FOLDER is what bench/rows.py writes
+//! usage: beside FOLDER ROUNDS [SVG]        by bench/beside; FOLDER is what bench/rows.py writes
+//!        beside FOLDER --count TURNS       by bench/count; no times, but turns to be counted
 
+mod count;
 #[cfg(feature = "libbson")]
 mod libbson;
 mod ours;
@@ -30,12 +32,7 @@ fn sides() -> Vec<Box<dyn Runner>> {
     ]
 }
 
-fn main() -> Result<(), Box<dyn Error>> {
-    let arguments: Vec<String> = std::env::args().collect();
-    let [_, folder, rounds, drawing @ ..] = &arguments[..] else {
-        return Err("usage: beside FOLDER ROUNDS [SVG]".into());
-    };
-    let (folder, rounds) = (Folder::read(folder)?, rounds.parse()?);
+fn time(folder: &Folder, rounds: usize, drawing: Option<&String>) -> Result<(), Box<dyn Error>> {
     let (mut rows, mut sides) = (folder.rows("rows"), sides());
     let split = rows.len();
     rows.extend(folder.rows("growth"));
@@ -47,8 +44,24 @@ fn main() -> Result<(), Box<dyn Error>> {
     table::print(rows);
     table::print_growth(&points);
     print!("\n{}", folder.notes());
-    match drawing {
-        [file] => Ok(std::fs::write(file, svg::draw(rows, &points))?),
-        _ => Ok(()),
+    if let Some(file) = drawing {
+        std::fs::write(file, svg::draw(rows, &points))?;
+    }
+    Ok(())
+}
+
+fn main() -> Result<(), Box<dyn Error>> {
+    let arguments: Vec<String> = std::env::args().skip(1).collect();
+    match &arguments[..] {
+        [folder, flag, turns] if flag == "--count" => {
+            let folder = Folder::read(folder)?;
+            let rows = ["rows", "growth"].map(|list| folder.rows(list));
+            count::run(rows.into_iter().flatten(), &mut sides(), turns.parse()?);
+            Ok(())
+        }
+        [folder, rounds, drawing @ ..] => {
+            time(&Folder::read(folder)?, rounds.parse()?, drawing.first())
+        }
+        _ => Err("usage: beside FOLDER ROUNDS [SVG], or beside FOLDER --count TURNS".into()),
     }
 }

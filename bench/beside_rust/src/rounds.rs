@@ -70,7 +70,7 @@ pub struct Row<'a> {
     pub name: &'a str,
     /// The bytes of its document.
     pub size: usize,
-    task: Task<'a>,
+    pub task: Task<'a>,
     lanes: Vec<Lane>,
 }
 
@@ -100,8 +100,13 @@ impl<'a> Row<'a> {
         Some(self.ns(side)? / self.ns(1)?)
     }
 
+    /// What this library, the second side, answers in a turn.
+    pub fn answer(&self) -> u64 {
+        self.lanes[1].answer
+    }
+
     /// Asks each side a few times, to see what it answers and how many turns make a batch.
-    fn prepare(&mut self, sides: &mut [Box<dyn Runner>]) {
+    pub fn prepare(&mut self, sides: &mut [Box<dyn Runner>]) {
         for side in sides.iter_mut() {
             let tries = [(); 5].map(|()| timed(side.as_mut(), &self.task, 1));
             let least = tries.map(|(ns, _)| ns).into_iter().fold(BATCH_NS, f64::min);

@@ -22,10 +22,13 @@ pub struct Point {
 }
 
 impl Folder {
+    /// Files are read in the order of their names, so that they lie in memory alike in every run.
     pub fn read(path: &str) -> Result<Self, Box<dyn Error>> {
+        let entries: Result<Vec<_>, _> = std::fs::read_dir(path)?.collect();
+        let mut paths: Vec<_> = entries?.iter().map(|entry| entry.path()).collect();
+        paths.sort();
         let mut files = HashMap::new();
-        for entry in std::fs::read_dir(path)? {
-            let path = entry?.path();
+        for path in paths {
             let name = path.file_name().and_then(|name| name.to_str());
             files.insert(name.ok_or("a name in UTF-8")?.into(), std::fs::read(&path)?);
         }
