@@ -2,14 +2,14 @@
 use mathlib.Core.Path.{_≡_, refl}
 use Rattle.bson.specs.Bytes.{le32, bytes}
 use Rattle.bson.specs.Utf8.{rows, utf8}
-use Rattle.bson.specs.Cstring.{cstring}
+use Rattle.bson.specs.Cstring.{zeroText, cstringUnder}
 use Rattle.bson.specs.Tags.{tags, rowOf}
-use Rattle.bson.specs.Framing.{fits, framed, valueSize}
-use Rattle.bson.specs.Step.{admitted, element, step, iterateFor, iterate}
+use Rattle.bson.specs.Framing.{fits, framedUnder, valueSizeUnder}
+use Rattle.bson.specs.Step.{admitted, elementUnder, stepUnder, iterateFor, iterateUnder}
 use Rattle.bson.specs.Value.{bool, content, valueIn, valueOf}
 use Rattle.bson.specs.ArrayKey.{goodArrayKey}
 use Rattle.bson.specs.Level.{opening}
-use Rattle.bson.specs.Check.{visit, opened, walkFor, walk, check}
+use Rattle.bson.specs.Check.{visit, opened, walkFor, walkUnder, checkUnder}
 use Rattle.bson.specs.Output.{put}
 use Rattle.bson.specs.Grammar.{bytes32, documentOf}
 use Rattle.bson.specs.Writer.{room}
@@ -17,5 +17,5 @@ use Rattle.bson.specs.Join.{body, both, sizeOfBoth, bothPut, join}
 use Rattle.bson.specs.JoinPoints.{joinPoints, saidOf, settledOf}
 
 pub join-points-hold : saidOf joinPoints ≡ settledOf joinPoints
-unfolding le32 bytes rows utf8 cstring tags rowOf fits framed valueSize admitted element step iterateFor iterate bool content valueIn valueOf goodArrayKey opening visit opened walkFor walk check put bytes32 documentOf room body both sizeOfBoth bothPut join joinPoints
+unfolding le32 bytes rows utf8 zeroText cstringUnder tags rowOf fits framedUnder valueSizeUnder admitted elementUnder stepUnder iterateFor iterateUnder bool content valueIn valueOf goodArrayKey opening visit opened walkFor walkUnder checkUnder put bytes32 documentOf room body both sizeOfBoth bothPut join joinPoints
 join-points-hold = refl

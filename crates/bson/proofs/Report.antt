@@ -4,13 +4,13 @@ use mathlib.Core.Path.{_≡_, refl}
 use mathlib.Core.List.{List, [], _∷_, _++_}
 use Rattle.bson.specs.Bytes.{le32, le64, signed, i32, i64, bytes}
 use Rattle.bson.specs.Utf8.{rows, utf8}
-use Rattle.bson.specs.Cstring.{cstring}
+use Rattle.bson.specs.Cstring.{zeroText, cstringUnder}
 use Rattle.bson.specs.Tags.{tags, rowOf}
-use Rattle.bson.specs.Framing.{fits, framed, valueSize}
-use Rattle.bson.specs.Step.{admitted, element, step, iterateFor, iterate}
+use Rattle.bson.specs.Framing.{fits, framedUnder, valueSizeUnder}
+use Rattle.bson.specs.Step.{admitted, elementUnder, stepUnder, iterateFor, iterateUnder}
 use Rattle.bson.specs.Value.{bool, content, valueIn, valueOf}
 use Rattle.bson.specs.Level.{opening}
-use Rattle.bson.specs.Check.{visit, opened, walkFor, walk, check}
+use Rattle.bson.specs.Check.{visit, opened, walkFor, walkUnder, checkUnder}
 use Rattle.bson.specs.Decimal.{digits, widthFor, width, decimal}
 use Rattle.bson.specs.Report.{header, hexByte, elementLine, verdictLine, reportLines, report}
 
@@ -51,5 +51,5 @@ titled [] = []
 titled (x ∷ xs) = (title ++ x .1) ∷ titled xs
 
 pub transcripts-hold : prints transcripts ≡ titled transcripts
-unfolding le32 le64 signed i32 i64 bytes rows utf8 cstring tags rowOf fits framed valueSize admitted element step iterateFor iterate bool content valueIn valueOf opening visit opened walkFor walk check digits widthFor width decimal header hexByte elementLine verdictLine reportLines report
+unfolding le32 le64 signed i32 i64 bytes rows utf8 zeroText cstringUnder tags rowOf fits framedUnder valueSizeUnder admitted elementUnder stepUnder iterateFor iterateUnder bool content valueIn valueOf opening visit opened walkFor walkUnder checkUnder digits widthFor width decimal header hexByte elementLine verdictLine reportLines report
 transcripts-hold = refl

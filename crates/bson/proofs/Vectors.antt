@@ -2,17 +2,17 @@
 use mathlib.Core.Path.{_≡_, refl}
 use Rattle.bson.specs.Bytes.{le32, le64, signed, i32, i64, bytes}
 use Rattle.bson.specs.Utf8.{rows, utf8}
-use Rattle.bson.specs.Cstring.{cstring}
+use Rattle.bson.specs.Cstring.{zeroText, cstringUnder}
 use Rattle.bson.specs.Tags.{tags, rowOf}
 use Rattle.bson.specs.Framing.{lengthField, fits, zeroEnded, stringSize, pointerSize, documentSize, binarySize, scopeSize}
-use Rattle.bson.specs.Framing.{patternOptions, regexSize, framed, valueSize}
-use Rattle.bson.specs.Step.{admitted, element, step, iterateFor, iterate}
-use Rattle.bson.specs.Value.{bool, timestampOf, text, binaryValue, scopeValue, content, valueIn, valueOf, elementAt, readAt}
-use Rattle.bson.specs.Lookup.{found, get}
+use Rattle.bson.specs.Framing.{patternOptionsUnder, regexSizeUnder, framedUnder, valueSizeUnder}
+use Rattle.bson.specs.Step.{admitted, elementUnder, stepUnder, iterateFor, iterateUnder}
+use Rattle.bson.specs.Value.{bool, timestampOf, text, binaryValue, scopeValue, content, valueIn, valueOf, elementAtUnder, readAtUnder}
+use Rattle.bson.specs.Lookup.{found, getUnder}
 use Rattle.bson.specs.Level.{opening}
-use Rattle.bson.specs.Check.{visit, opened, walkFor, walk, check}
+use Rattle.bson.specs.Check.{visit, opened, walkFor, walkUnder, checkUnder}
 use Rattle.bson.specs.Vectors.{vectors, says}
 
 pub vectors-hold : says vectors ≡ vectors
-unfolding le32 le64 signed i32 i64 bytes rows utf8 cstring tags rowOf lengthField fits zeroEnded stringSize pointerSize documentSize binarySize scopeSize patternOptions regexSize framed valueSize admitted element step iterateFor iterate bool timestampOf text binaryValue scopeValue content valueIn valueOf elementAt readAt found get opening visit opened walkFor walk check vectors
+unfolding le32 le64 signed i32 i64 bytes rows utf8 zeroText cstringUnder tags rowOf lengthField fits zeroEnded stringSize pointerSize documentSize binarySize scopeSize patternOptionsUnder regexSizeUnder framedUnder valueSizeUnder admitted elementUnder stepUnder iterateFor iterateUnder bool timestampOf text binaryValue scopeValue content valueIn valueOf elementAtUnder readAtUnder found getUnder opening visit opened walkFor walkUnder checkUnder vectors
 vectors-hold = refl

@@ -1,4 +1,5 @@
--- What a call answers: a value, or the number and the place of a refusal; 1 to 13 mean damage (document 01, "Numbers returned").
+-- What a call answers: a value, or the number and the place of a refusal; 1 to 13 mean damage, and under a
+-- limit 22 (document 01, "Numbers returned"; document 02, request 2).
 use Prim.Native.Nat.{ℕ}
 use mathlib.Core.Bool.{Bool, true, false}
 

@@ -6,7 +6,8 @@ use lib.ListN.{length}
 use lib.Dec.{leb}
 use Rattle.bson.specs.Answer.{Answer, gives, refuses, then, at, unless}
 use Rattle.bson.specs.Bytes.{bytes}
-use Rattle.bson.specs.Step.{Element, Iteration, ended, broken, more, iterate}
+use Rattle.bson.specs.Step.{Element, Iteration, ended, broken, more, iterateUnder}
+use Rattle.bson.specs.Cstring.{Limit, unlimited}
 use Rattle.bson.specs.Value.{valueOf}
 use Rattle.bson.specs.ArrayKey.{goodArrayKey}
 use Rattle.bson.specs.Level.{Opening, closed, opens, opening, Level, outermost, deeper}
@@ -50,12 +51,19 @@ along strict walk s l position (more e rest) =
     gives (n + m)
 
 -- a document within another is shorter than it, so as many levels as the slice has bytes, and one, are enough (`walk-eq`)
-unfoldable pub walkFor : ℕ → Bool → Walk
-walkFor zero strict s l = refuses 0 0
-walkFor (suc n) strict s l = along strict (walkFor n strict) s l 0 (iterate s 4)
+unfoldable pub walkFor : Limit → ℕ → Bool → Walk
+walkFor limit zero strict s l = refuses 0 0
+walkFor limit (suc n) strict s l = along strict (walkFor limit n strict) s l 0 (iterateUnder limit s 4)
 
-unfoldable pub walk : Bool → Walk
-walk strict s l = walkFor (suc (length s)) strict s l
+unfoldable pub walkUnder : Limit → Bool → Walk
+walkUnder limit strict s l = walkFor limit (suc (length s)) strict s l
 
-unfoldable pub check : Bool → List ℕ → Answer ℕ
-check strict s = walk strict s outermost
+unfoldable pub checkUnder : Limit → Bool → List ℕ → Answer ℕ
+checkUnder limit strict s = walkUnder limit strict s outermost
+
+-- without a limit
+abbrev pub walk : Bool → Walk
+walk strict s l = walkUnder unlimited strict s l
+
+abbrev pub check : Bool → List ℕ → Answer ℕ
+check strict s = checkUnder unlimited strict s

@@ -6,7 +6,7 @@ use lib.ListN.{length, getD, drop}
 use lib.Dec.{leb, eqb}
 use Rattle.bson.specs.Answer.{Answer, gives, then, unless}
 use Rattle.bson.specs.Bytes.{le32, natural, Part, part}
-use Rattle.bson.specs.Cstring.{cstring}
+use Rattle.bson.specs.Cstring.{Limit, unlimited, cstringUnder}
 use Rattle.bson.specs.Tags.{Sized, fixed, asString, asPointer, asDocument, asBinary, asRegex, asScope, sizedOf}
 
 -- "n is the i32 in front": so many bytes present and n not negative and at least its least, else 8
@@ -52,25 +52,38 @@ unfoldable pub scopeSize : List ℕ → Answer ℕ
 scopeSize v = then (lengthField 4 0 v) λ n. fits n v
 
 -- "pattern 5, 6, then options 5, 6"
-unfoldable pub patternOptions : List ℕ → Answer (Part × Part)
-patternOptions v =
-    then (cstring v) λ p.
-    then (cstring (drop (p + 1) v)) λ o.
+unfoldable pub patternOptionsUnder : Limit → List ℕ → Answer (Part × Part)
+patternOptionsUnder limit v =
+    then (cstringUnder limit v) λ p.
+    then (cstringUnder limit (drop (p + 1) v)) λ o.
     gives (part 0 p, part (p + 1) o)
 
 -- "pattern, zero, options, zero"
-unfoldable pub regexSize : List ℕ → Answer ℕ
-regexSize v = then (patternOptions v) λ r. gives (r .0 .size + 1 + (r .1 .size + 1))
+unfoldable pub regexSizeUnder : Limit → List ℕ → Answer ℕ
+regexSizeUnder limit v = then (patternOptionsUnder limit v) λ r. gives (r .0 .size + 1 + (r .1 .size + 1))
 
-unfoldable pub framed : Sized → List ℕ → Answer ℕ
-framed (fixed n) v = fits n v
-framed asString v = stringSize v
-framed asPointer v = pointerSize v
-framed asDocument v = documentSize v
-framed asBinary v = binarySize v
-framed asRegex v = regexSize v
-framed asScope v = scopeSize v
+unfoldable pub framedUnder : Limit → Sized → List ℕ → Answer ℕ
+framedUnder limit (fixed n) v = fits n v
+framedUnder limit asString v = stringSize v
+framedUnder limit asPointer v = pointerSize v
+framedUnder limit asDocument v = documentSize v
+framedUnder limit asBinary v = binarySize v
+framedUnder limit asRegex v = regexSizeUnder limit v
+framedUnder limit asScope v = scopeSize v
 
 -- "tag, 7; framing"
-unfoldable pub valueSize : ℕ → List ℕ → Answer ℕ
-valueSize tag v = then (sizedOf tag) λ z. framed z v
+unfoldable pub valueSizeUnder : Limit → ℕ → List ℕ → Answer ℕ
+valueSizeUnder limit tag v = then (sizedOf tag) λ z. framedUnder limit z v
+
+-- without a limit
+abbrev pub patternOptions : List ℕ → Answer (Part × Part)
+patternOptions v = patternOptionsUnder unlimited v
+
+abbrev pub regexSize : List ℕ → Answer ℕ
+regexSize v = regexSizeUnder unlimited v
+
+abbrev pub framed : Sized → List ℕ → Answer ℕ
+framed z v = framedUnder unlimited z v
+
+abbrev pub valueSize : ℕ → List ℕ → Answer ℕ
+valueSize tag v = valueSizeUnder unlimited tag v

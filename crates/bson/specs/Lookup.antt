@@ -5,7 +5,8 @@ use mathlib.Core.Bool.{Bool, cond}
 use lib.Dec.{eqb}
 use Rattle.bson.specs.Answer.{Answer, gives, refuses, then, at}
 use Rattle.bson.specs.Bytes.{bytes, same}
-use Rattle.bson.specs.Step.{terminator, admitted, Element, handed, Iteration, ended, broken, more, iterate}
+use Rattle.bson.specs.Step.{terminator, admitted, Element, handed, Iteration, ended, broken, more, iterateUnder}
+use Rattle.bson.specs.Cstring.{Limit, unlimited}
 use Rattle.bson.specs.Value.{Value, valueOf, ofTag, Which, partOf}
 
 -- what a lookup finds: the element and its value
@@ -29,16 +30,26 @@ first s key (more e rest) =
     (first s key rest)
 
 -- "iteration starts at 4"
-unfoldable pub get : List ℕ → List ℕ → Answer Found
-get s key = first s key (iterate s 4)
+unfoldable pub getUnder : Limit → List ℕ → List ℕ → Answer Found
+getUnder limit s key = first s key (iterateUnder limit s 4)
 
 -- "lookup hands back a part of the document, never of the key: the value's framed bytes"; the twin is `get`
-unfoldable pub getBytes : List ℕ → List ℕ → List ℕ
-getBytes s key = handed s (then (get s key) λ f. gives (f .element .value))
+unfoldable pub getBytesUnder : Limit → List ℕ → List ℕ → List ℕ
+getBytesUnder limit s key = handed s (then (getUnder limit s key) λ f. gives (f .element .value))
 
 -- "typed lookup: 16, then the value's refusal, then 17"
-unfoldable pub getWith : List ℕ → List ℕ → ℕ → Answer Found
-getWith s key tag = then (get s key) λ f. ofTag (f .element) tag f
+unfoldable pub getWithUnder : Limit → List ℕ → List ℕ → ℕ → Answer Found
+getWithUnder limit s key tag = then (getUnder limit s key) λ f. ofTag (f .element) tag f
+
+-- without a limit
+abbrev pub get : List ℕ → List ℕ → Answer Found
+get s key = getUnder unlimited s key
+
+abbrev pub getBytes : List ℕ → List ℕ → List ℕ
+getBytes s key = getBytesUnder unlimited s key
+
+abbrev pub getWith : List ℕ → List ℕ → ℕ → Answer Found
+getWith s key tag = getWithUnder unlimited s key tag
 
 -- a typed getter gives the number that the framed bytes hold
 abbrev pub typed : {A : Type 0} → (List ℕ → Answer A) → List ℕ → List ℕ → ℕ → Answer A
@@ -47,8 +58,11 @@ typed number s key tag =
     at (f .element .place) (number (bytes s (f .element .value)))
 
 -- or a part of the value; the twin is `getWith`
-unfoldable pub getPart : List ℕ → List ℕ → ℕ → Which → List ℕ
-getPart s key tag w = handed s (then (getWith s key tag) λ f. gives (partOf w (f .value)))
+unfoldable pub getPartUnder : Limit → List ℕ → List ℕ → ℕ → Which → List ℕ
+getPartUnder limit s key tag w = handed s (then (getWithUnder limit s key tag) λ f. gives (partOf w (f .value)))
+
+abbrev pub getPart : List ℕ → List ℕ → ℕ → Which → List ℕ
+getPart s key tag w = getPartUnder unlimited s key tag w
 
 -- `is_empty`: a document of five bytes has no element
 unfoldable pub isEmpty : List ℕ → Answer Bool

@@ -6,8 +6,8 @@ use lib.ListN.{length, getD, drop}
 use lib.Dec.{leb, eqb}
 use Rattle.bson.specs.Answer.{Answer, gives, refuses, then, unless, at}
 use Rattle.bson.specs.Bytes.{le32, natural, Part, part, bytes}
-use Rattle.bson.specs.Cstring.{cstring}
-use Rattle.bson.specs.Framing.{valueSize}
+use Rattle.bson.specs.Cstring.{Limit, unlimited, cstringUnder}
+use Rattle.bson.specs.Framing.{valueSizeUnder}
 
 -- "the terminator is the last offset"
 abbrev pub terminator : List ℕ → ℕ
@@ -41,10 +41,10 @@ abbrev pub past : Element → ℕ
 past e = e .value .offset + e .value .size
 
 -- "key, up to its zero, 6; tag, 7; framing"
-unfoldable pub element : List ℕ → ℕ → Answer Element
-element s p =
-    then (cstring (drop (p + 1) s)) λ k.
-    then (valueSize (getD s p 0) (drop (p + 1 + k + 1) s)) λ n.
+unfoldable pub elementUnder : Limit → List ℕ → ℕ → Answer Element
+elementUnder limit s p =
+    then (cstringUnder limit (drop (p + 1) s)) λ k.
+    then (valueSizeUnder limit (getD s p 0) (drop (p + 1 + k + 1) s)) λ n.
     gives (record { place = p; tag = getD s p 0; key = part (p + 1) k; value = part (p + 1 + k + 1) n })
 
 pub data Step : Type 0 where
@@ -52,18 +52,18 @@ pub data Step : Type 0 where
   end : Step
 
 -- the step at an element
-abbrev pub yielding : List ℕ → ℕ → Answer Step
-yielding s p = then (element s p) λ e. gives (yield e)
+abbrev pub yieldingUnder : Limit → List ℕ → ℕ → Answer Step
+yieldingUnder limit s p = then (elementUnder limit s p) λ e. gives (yield e)
 
 -- "admission; ended cursor (answers end); 4; at the terminator (end)", then the element
-unfoldable pub step : List ℕ → Cursor → Answer Step
-step s c =
+unfoldable pub stepUnder : Limit → List ℕ → Cursor → Answer Step
+stepUnder limit s c =
     then (admitted s) λ _.
     cond (c .ended) (gives end)
     (at (c .offset)
     (unless (leb 4 (c .offset) && leb (c .offset) (terminator s)) 4
     (cond (eqb (c .offset) (terminator s)) (gives end)
-    (yielding s (c .offset)))))
+    (yieldingUnder limit s (c .offset)))))
 
 -- "a refusal or an end sets the mark and keeps the offset; an ended cursor stays ended"
 abbrev pub after : Cursor → Answer Step → Cursor
@@ -82,10 +82,10 @@ handed s (gives p) = bytes s p
 handed s (refuses n p) = []
 
 -- the key that a step yields; the twin is the step
-unfoldable pub keyAt : List ℕ → Cursor → List ℕ
-keyAt s c =
+unfoldable pub keyAtUnder : Limit → List ℕ → Cursor → List ℕ
+keyAtUnder limit s c =
     handed s
-    (then (step s c) λ x.
+    (then (stepUnder limit s c) λ x.
     then (yielded (c .offset) x) λ e.
     gives (e .key))
 
@@ -101,9 +101,22 @@ onward (gives end) from = ended
 onward (refuses n p) from = broken n p
 
 -- an element has two bytes or more, so as many steps as the slice has bytes, and one, are enough (`iterate-eq`)
-unfoldable pub iterateFor : ℕ → List ℕ → ℕ → Iteration
-iterateFor zero s offset = broken 0 0
-iterateFor (suc n) s offset = onward (step s (cursor offset false)) (iterateFor n s)
+unfoldable pub iterateFor : Limit → ℕ → List ℕ → ℕ → Iteration
+iterateFor limit zero s offset = broken 0 0
+iterateFor limit (suc n) s offset = onward (stepUnder limit s (cursor offset false)) (iterateFor limit n s)
 
-unfoldable pub iterate : List ℕ → ℕ → Iteration
-iterate s offset = iterateFor (suc (length s)) s offset
+unfoldable pub iterateUnder : Limit → List ℕ → ℕ → Iteration
+iterateUnder limit s offset = iterateFor limit (suc (length s)) s offset
+
+-- without a limit
+abbrev pub element : List ℕ → ℕ → Answer Element
+element s p = elementUnder unlimited s p
+
+abbrev pub step : List ℕ → Cursor → Answer Step
+step s c = stepUnder unlimited s c
+
+abbrev pub keyAt : List ℕ → Cursor → List ℕ
+keyAt s c = keyAtUnder unlimited s c
+
+abbrev pub iterate : List ℕ → ℕ → Iteration
+iterate s offset = iterateUnder unlimited s offset

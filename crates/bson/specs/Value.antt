@@ -10,7 +10,8 @@ use Rattle.bson.specs.Bytes.{le32, le64, i32, i64, Part, part, bytes, tr
 use Rattle.bson.specs.Utf8.{utf8}
 use Rattle.bson.specs.Tags
 use Rattle.bson.specs.Framing.{inFront, stringSize, patternOptions}
-use Rattle.bson.specs.Step.{admitted, cursor, Element, step, yielded, handed}
+use Rattle.bson.specs.Step.{admitted, cursor, Element, stepUnder, yielded, handed}
+use Rattle.bson.specs.Cstring.{Limit, unlimited}
 use Tags.{ElementType, Boolean, Int32, Double, Int64, DateTime, Timestamp, ObjectId, Decimal128, Null, Undefined, MinKey, MaxKey}
 use Tags.{String, JavaScriptCode, Symbol, DbPointer, EmbeddedDocument, Array, Binary, RegularExpression, JavaScriptCodeWithScope, typeOf}
 
@@ -116,16 +117,16 @@ abbrev pub ofTag : {A : Type 0} → Element → ℕ → A → Answer A
 ofTag e tag a = at (e .place) (unless (eqb (e .tag) tag) 17 (gives a))
 
 -- "a value read takes a document and a place, steps there first, then reads"
-unfoldable pub elementAt : List ℕ → ℕ → Answer Element
-elementAt s place = then (step s (cursor place false)) (yielded place)
+unfoldable pub elementAtUnder : Limit → List ℕ → ℕ → Answer Element
+elementAtUnder limit s place = then (stepUnder limit s (cursor place false)) (yielded place)
 
-unfoldable pub readAt : List ℕ → ℕ → Answer Value
-readAt s place = then (elementAt s place) (valueOf s)
+unfoldable pub readAtUnder : Limit → List ℕ → ℕ → Answer Value
+readAtUnder limit s place = then (elementAtUnder limit s place) (valueOf s)
 
 -- the same, of a value that must have this tag: "the value's refusal, then 17"
-unfoldable pub readWith : List ℕ → ℕ → ℕ → Answer Value
-readWith s place tag =
-    then (elementAt s place) λ e.
+unfoldable pub readWithUnder : Limit → List ℕ → ℕ → ℕ → Answer Value
+readWithUnder limit s place tag =
+    then (elementAtUnder limit s place) λ e.
     then (valueOf s e) λ v.
     ofTag e tag v
 
@@ -165,5 +166,15 @@ partOf first v = partsOf v .0
 partOf second v = partsOf v .1
 
 -- the twin is `readWith`
-unfoldable pub partAt : List ℕ → ℕ → ℕ → Which → List ℕ
-partAt s place tag w = handed s (then (readWith s place tag) λ v. gives (partOf w v))
+unfoldable pub partAtUnder : Limit → List ℕ → ℕ → ℕ → Which → List ℕ
+partAtUnder limit s place tag w = handed s (then (readWithUnder limit s place tag) λ v. gives (partOf w v))
+
+-- without a limit
+abbrev pub readAt : List ℕ → ℕ → Answer Value
+readAt s place = readAtUnder unlimited s place
+
+abbrev pub readWith : List ℕ → ℕ → ℕ → Answer Value
+readWith s place tag = readWithUnder unlimited s place tag
+
+abbrev pub partAt : List ℕ → ℕ → ℕ → Which → List ℕ
+partAt s place tag w = partAtUnder unlimited s place tag w

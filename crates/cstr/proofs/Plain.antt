@@ -12,7 +12,7 @@ use lib.Seq.{drop-cons, drop-drop, take-length}
 use borrow.Author.Tests.{eq-eqb, ne-eqb, eqb-true, ltb-false, lt-ltb, le-ltb}
 use Rattle.bson.specs.Answer.{gives, refuses}
 use Rattle.bson.specs.Utf8.{utf8, Left, left, read}
-use Rattle.bson.specs.Cstring.{firstZero, cstring, validCstr}
+use Rattle.bson.specs.Cstring.{firstZero, zeroText, validCstr}
 use Rattle.laws.proofs.Common.{split}
 use Rattle.laws.proofs.Utf8Laws.{next-ascii}
 use Rattle.cstr.specs.Scan.{stopsAt, plain, PlainOf}
@@ -96,17 +96,17 @@ unfolding utf8
 plain-utf8 v = rw (plain-read v)
 
 module _ (v : List ℕ) (i : ℕ) (q : i ≡ plain v) where
-  pub plain-found : i < length v → getD v i 0 ≡ 0 → gives i ≡ cstring v
-  unfolding cstring
-  plain-found h e =
+  pub plain-found : i < length v → getD v i 0 ≡ 0 → (number : ℕ) → gives i ≡ zeroText number v
+  unfolding zeroText
+  plain-found h e number =
       let f : firstZero v ≡ plain v = plain-first v (ap (λ (k : ℕ). getD v k 0) (sym q) ∙ e) in
       let l : firstZero v < length v = omega arith in
       let t : utf8 (take (firstZero v) v) ≡ true = ap (λ (k : ℕ). utf8 (take k v)) f ∙ plain-utf8 v in
       rw (lt-ltb (firstZero v) (length v) l, t, f, q)
 
-  pub plain-none : length v ≤ i → refuses 5 0 ≡ cstring v
-  unfolding cstring
-  plain-none h =
+  pub plain-none : length v ≤ i → (number : ℕ) → refuses number 0 ≡ zeroText number v
+  unfolding zeroText
+  plain-none h number =
       let f : firstZero v ≡ plain v = plain-first v (List·getD-eq-default v 0 (omega arith)) in
       let l : length v ≤ firstZero v = omega arith in
       rw (le-ltb (firstZero v) (length v) l)

@@ -4,8 +4,8 @@ ghost use Prim.Native.Nat.{_+_, _≤_};
 ghost use lib.Dec.{eqb, ltb};
 ghost use lib.ListN.{length, drop};
 ghost use Rattle.bson.specs.Bytes.{same};
-ghost use Rattle.bson.specs.Cstring.{firstZero, cstring, validCstr};
-ghost use Rattle.cstr.specs.Said.{said};
+ghost use Rattle.bson.specs.Cstring.{firstZero, seen, missing, zeroText, cstringUnder, cstring, validCstr};
+ghost use Rattle.cstr.specs.Said.{limitOf, capped, said};
 ghost use Rattle.cstr.specs.Scan.{stopsAt, plain, PlainOf};
 
 // How many bytes a text or a value has, or the number of the refusal.
@@ -91,9 +91,43 @@ fn first_zero(v: &[u8]) -> usize
     i
 }
 
+// The number for no limit, where one is asked for that says how many bytes a zero-ended text may have.
+pub const NO_LIMIT: usize = 18446744073709551615;
+
+// The number for a limit that is set. The largest says none: the one below it stands for it, which no slice is as long as.
+pub fn most_of(limit: usize) -> usize
+    ensures { λ r. ⌜ r ≡ capped limit ⌝ }
+{
+    if limit == NO_LIMIT {
+        return NO_LIMIT - 1;
+    }
+    limit
+}
+
+// What a limit lets be looked at.
+fn cut<'a>(v: &'a [u8], limit: usize) -> &'a [u8]
+    ensures { λ r. ⌜ now r ≡ seen (limitOf limit) (now (v .entry)) ⌝ }
+{
+    if limit < v.len() {
+        let end = limit + 1;
+        return &v[..end];
+    }
+    v
+}
+
+// The number of a text without a zero byte.
+fn number_of(limit: usize) -> u8
+    ensures { λ r. ⌜ r ≡ missing (limitOf limit) ⌝ }
+{
+    if limit == NO_LIMIT {
+        return 5;
+    }
+    22
+}
+
 // Two passes: the zero byte, then UTF-8.
-fn read_mixed(v: &[u8]) -> Length
-    ensures { λ r. ⌜ said r ≡ cstring (now (v .entry)) ⌝ }
+fn read_mixed(v: &[u8], number: u8) -> Length
+    ensures { λ r. ⌜ said r ≡ zeroText number (now (v .entry)) ⌝ }
 {
     let n = first_zero(v);
     if n < v.len() {
@@ -102,21 +136,30 @@ fn read_mixed(v: &[u8]) -> Length
         }
         return Length::Refused(6);
     }
-    Length::Refused(5)
+    Length::Refused(number)
 }
 
-// The size of the text in front of the first zero byte: 5 where there is no zero, 6 where it is not UTF-8.
-pub fn read_cstring(v: &[u8]) -> Length
-    ensures { λ r. ⌜ said r ≡ cstring (now (v .entry)) ⌝ }
+// The size of the text in front of the first zero byte: 5 where there is none, 6 where the text is not UTF-8. Under a limit so many bytes
+// and one more are looked at: 22 where no zero is among them.
+pub fn read_cstring_with_max_len(buf: &[u8], limit: usize) -> Length
+    ensures { λ r. ⌜ said r ≡ cstringUnder (limitOf limit) (now (buf .entry)) ⌝ }
 {
+    let v = cut(buf, limit);
     let i = plain_end(v);
     if i < v.len() {
         if v[i] == 0 {
             return Length::Is(i);
         }
-        return read_mixed(v);
+        return read_mixed(v, number_of(limit));
     }
-    Length::Refused(5)
+    Length::Refused(number_of(limit))
+}
+
+// The same without a limit: 5, 6.
+pub fn read_cstring(v: &[u8]) -> Length
+    ensures { λ r. ⌜ said r ≡ cstring (now (v .entry)) ⌝ }
+{
+    read_cstring_with_max_len(v, NO_LIMIT)
 }
 
 // Whether one of four bytes stops. With `|` all tests lead to one branch.

@@ -18,12 +18,20 @@ use Rattle.document.proofs.from_bytes.Reads as from-bytes-reads
 use Rattle.document.proofs.from_bytes.Kinds as from-bytes-kinds
 use Rattle.document.proofs.is_empty.Reads as is-empty-reads
 use Rattle.document.proofs.is_empty.Kinds as is-empty-kinds
+use Rattle.document.proofs.get_element_under.Reads as get-element-under-reads
+use Rattle.document.proofs.get_element_under.Kinds as get-element-under-kinds
 use Rattle.document.proofs.get_element.Reads as get-element-reads
 use Rattle.document.proofs.get_element.Kinds as get-element-kinds
+use Rattle.document.proofs.get_under.Reads as get-under-reads
+use Rattle.document.proofs.get_under.Kinds as get-under-kinds
 use Rattle.document.proofs.get.Reads as get-reads
 use Rattle.document.proofs.get.Kinds as get-kinds
+use Rattle.document.proofs.get_with_under.Reads as get-with-under-reads
+use Rattle.document.proofs.get_with_under.Kinds as get-with-under-kinds
 use Rattle.document.proofs.get_with.Reads as get-with-reads
 use Rattle.document.proofs.get_with.Kinds as get-with-kinds
+use Rattle.document.proofs.get_part_under.Reads as get-part-under-reads
+use Rattle.document.proofs.get_part_under.Kinds as get-part-under-kinds
 use Rattle.document.proofs.get_part.Reads as get-part-reads
 use Rattle.document.proofs.get_part.Kinds as get-part-kinds
 
@@ -44,14 +52,26 @@ found-again : (r : Found) → unsaidFound (said r) ≡ r
 found-again (Is e v) = rw (value-again v)
 found-again (Refused number place) = refl
 
+pub get-element-under-determined : (κs : Lfts 2) (a : Dens κs get-element-under-kinds.ps) → Determined (get-element-under-reads.Post κs a)
+get-element-under-determined κs a r₁ r₂ s₁ s₂ p q = injective-by said unsaidFound found-again r₁ r₂ (p ∙ sym q)
+
 pub get-element-determined : (κs : Lfts 2) (a : Dens κs get-element-kinds.ps) → Determined (get-element-reads.Post κs a)
 get-element-determined κs a r₁ r₂ s₁ s₂ p q = injective-by said unsaidFound found-again r₁ r₂ (p ∙ sym q)
+
+pub get-under-determined : (κs : Lfts 2) (a : Dens κs get-under-kinds.ps) → DeterminedPart now (get-under-reads.Post κs a)
+get-under-determined κs a r₁ r₂ s₁ s₂ p q = p ∙ sym q
 
 pub get-determined : (κs : Lfts 2) (a : Dens κs get-kinds.ps) → DeterminedPart now (get-reads.Post κs a)
 get-determined κs a r₁ r₂ s₁ s₂ p q = p ∙ sym q
 
+pub get-with-under-determined : (κs : Lfts 2) (a : Dens κs get-with-under-kinds.ps) → Determined (get-with-under-reads.Post κs a)
+get-with-under-determined κs a r₁ r₂ s₁ s₂ p q = injective-by said unsaidFound found-again r₁ r₂ (p ∙ sym q)
+
 pub get-with-determined : (κs : Lfts 2) (a : Dens κs get-with-kinds.ps) → Determined (get-with-reads.Post κs a)
 get-with-determined κs a r₁ r₂ s₁ s₂ p q = injective-by said unsaidFound found-again r₁ r₂ (p ∙ sym q)
+
+pub get-part-under-determined : (κs : Lfts 2) (a : Dens κs get-part-under-kinds.ps) → DeterminedPart now (get-part-under-reads.Post κs a)
+get-part-under-determined κs a r₁ r₂ s₁ s₂ p q = p ∙ sym q
 
 pub get-part-determined : (κs : Lfts 2) (a : Dens κs get-part-kinds.ps) → DeterminedPart now (get-part-reads.Post κs a)
 get-part-determined κs a r₁ r₂ s₁ s₂ p q = p ∙ sym q

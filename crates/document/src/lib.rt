@@ -2,9 +2,10 @@
 ghost use mathlib.Core.Path.{_≡_};
 ghost use Rattle.bson.specs.Answer.{then};
 ghost use Rattle.bson.specs.Step.{admitted};
-ghost use Rattle.bson.specs.Lookup.{found as foundIn, get as lookup, getBytes, getWith, getPart, isEmpty};
+ghost use Rattle.bson.specs.Lookup.{found as foundIn, getUnder, getBytesUnder, getWithUnder, getPartUnder, get as lookup, getBytes, getWith, getPart, isEmpty};
 ghost use Rattle.bson.specs.Value.{ofTag};
 ghost use Rattle.cstr.specs.Said as length;
+ghost use Rattle.cstr.specs.Said.{limitOf};
 ghost use Rattle.iter.specs.Said.{saidElement};
 ghost use Rattle.reading.specs.Said.{saidWhich};
 ghost use Rattle.document.specs.Said.{saidEmpty, said, reads};
@@ -77,14 +78,14 @@ fn read_element_with(s: &[u8], element: Element, tag: u8) -> Found
 }
 
 // The first element whose key has these bytes, not read yet: the refusals of the steps before it, or 16 at the terminator.
-fn find(s: &[u8], key: &[u8]) -> Hit
-    ensures { λ r. ⌜ reads (now (s .entry)) r ≡ lookup (now (s .entry)) (now (key .entry)) ⌝ }
+fn find(s: &[u8], key: &[u8], limit: usize) -> Hit
+    ensures { λ r. ⌜ reads (now (s .entry)) r ≡ getUnder (limitOf limit) (now (s .entry)) (now (key .entry)) ⌝ }
 {
     // a part made here is handed on as two words, and not copied as one from the caller's two
     let whole = &s[0..];
     let mut place: usize = 4;
     loop {
-        match iter::sizes_at(whole, place) {
+        match iter::sizes_at(whole, place, limit) {
             Sizes::End => {
                 return Hit::Refused { number: 16, place };
             }
@@ -97,12 +98,13 @@ fn find(s: &[u8], key: &[u8]) -> Hit
                 value: size,
             } => {
                 let start = place + 1;
-                let behind = start + length + 1;
-                let name = Part {
-                    offset: start,
-                    size: length,
-                };
-                if cstr::equal(key, part::bytes_of(whole, name)) {
+                let zero = start + length;
+                let behind = zero + 1;
+                if cstr::equal(key, &whole[start..zero]) {
+                    let name = Part {
+                        offset: start,
+                        size: length,
+                    };
                     let value = Part {
                         offset: behind,
                         size,
@@ -122,20 +124,27 @@ fn find(s: &[u8], key: &[u8]) -> Hit
 
 // The first element whose key has these bytes, and its value: the refusals of the steps before it, then the value's,
 // or 16 at the terminator. Damage behind the element is not seen.
-pub fn get_element(s: &[u8], key: &[u8]) -> Found
-    ensures { λ r. ⌜ said r ≡ lookup (now (s .entry)) (now (key .entry)) ⌝ }
+pub fn get_element_under(s: &[u8], key: &[u8], limit: usize) -> Found
+    ensures { λ r. ⌜ said r ≡ getUnder (limitOf limit) (now (s .entry)) (now (key .entry)) ⌝ }
 {
-    match find(s, key) {
+    match find(s, key, limit) {
         Hit::Refused { number, place } => Found::Refused { number, place },
         Hit::Is(element) => read_element(s, element),
     }
 }
 
-// The value's framed bytes, as a part of the document; empty where `get_element`, its twin, refuses.
-pub fn get<'a, 'b>(s: &'a [u8], key: &'b [u8]) -> &'a [u8]
-    ensures { λ r. ⌜ now r ≡ getBytes (now (s .entry)) (now (key .entry)) ⌝ }
+// The same without a limit.
+pub fn get_element(s: &[u8], key: &[u8]) -> Found
+    ensures { λ r. ⌜ said r ≡ lookup (now (s .entry)) (now (key .entry)) ⌝ }
 {
-    match get_element(s, key) {
+    get_element_under(s, key, cstr::NO_LIMIT)
+}
+
+// The value's framed bytes, as a part of the document; empty where `get_element_under`, its twin, refuses.
+pub fn get_under<'a, 'b>(s: &'a [u8], key: &'b [u8], limit: usize) -> &'a [u8]
+    ensures { λ r. ⌜ now r ≡ getBytesUnder (limitOf limit) (now (s .entry)) (now (key .entry)) ⌝ }
+{
+    match get_element_under(s, key, limit) {
         Found::Refused {
             number: _,
             place: _,
@@ -147,25 +156,52 @@ pub fn get<'a, 'b>(s: &'a [u8], key: &'b [u8]) -> &'a [u8]
     }
 }
 
-// Typed lookup: the first element of the key, whose value must have this tag: 16, the value's refusal, then 17.
-pub fn get_with(s: &[u8], key: &[u8], tag: u8) -> Found
-    ensures { λ r. ⌜ said r ≡ getWith (now (s .entry)) (now (key .entry)) tag ⌝ }
+// The same without a limit.
+pub fn get<'a, 'b>(s: &'a [u8], key: &'b [u8]) -> &'a [u8]
+    ensures { λ r. ⌜ now r ≡ getBytes (now (s .entry)) (now (key .entry)) ⌝ }
 {
-    match find(s, key) {
+    get_under(s, key, cstr::NO_LIMIT)
+}
+
+// Typed lookup: the first element of the key, whose value must have this tag: 16, the value's refusal, then 17.
+pub fn get_with_under(s: &[u8], key: &[u8], tag: u8, limit: usize) -> Found
+    ensures { λ r. ⌜ said r ≡ getWithUnder (limitOf limit) (now (s .entry)) (now (key .entry)) tag ⌝ }
+{
+    match find(s, key, limit) {
         Hit::Refused { number, place } => Found::Refused { number, place },
         Hit::Is(element) => read_element_with(s, element, tag),
     }
 }
 
-// A part of the value, as a part of the document; empty where `get_with`, its twin, refuses.
-pub fn get_part<'a, 'b>(s: &'a [u8], key: &'b [u8], tag: u8, which: Which) -> &'a [u8]
-    ensures { λ r. ⌜ now r ≡ getPart (now (s .entry)) (now (key .entry)) tag (saidWhich which) ⌝ }
+// The same without a limit.
+pub fn get_with(s: &[u8], key: &[u8], tag: u8) -> Found
+    ensures { λ r. ⌜ said r ≡ getWith (now (s .entry)) (now (key .entry)) tag ⌝ }
 {
-    match get_with(s, key, tag) {
+    get_with_under(s, key, tag, cstr::NO_LIMIT)
+}
+
+// A part of the value, as a part of the document; empty where `get_with_under`, its twin, refuses.
+pub fn get_part_under<'a, 'b>(
+    s: &'a [u8],
+    key: &'b [u8],
+    tag: u8,
+    which: Which,
+    limit: usize,
+) -> &'a [u8]
+    ensures { λ r. ⌜ now r ≡ getPartUnder (limitOf limit) (now (s .entry)) (now (key .entry)) tag (saidWhich which) ⌝ }
+{
+    match get_with_under(s, key, tag, limit) {
         Found::Refused {
             number: _,
             place: _,
         } => &s[..0],
         Found::Is { element: _, value } => part::bytes_of(s, reading::part_of(value, which)),
     }
+}
+
+// The same without a limit.
+pub fn get_part<'a, 'b>(s: &'a [u8], key: &'b [u8], tag: u8, which: Which) -> &'a [u8]
+    ensures { λ r. ⌜ now r ≡ getPart (now (s .entry)) (now (key .entry)) tag (saidWhich which) ⌝ }
+{
+    get_part_under(s, key, tag, which, cstr::NO_LIMIT)
 }

@@ -2,8 +2,9 @@
 use Prim.Native.Nat.{ℕ}
 use mathlib.Core.Path.{_≡_, ap, _∙_}
 use mathlib.Core.List.{List}
+use Rattle.bson.specs.Cstring.{Limit}
 use Rattle.bson.specs.Join as paper
-use Rattle.bson.specs.Step.{Cursor, step, after}
+use Rattle.bson.specs.Step.{Cursor, stepUnder}
 use Rattle.bson.specs.Writer as writer
 use Rattle.iter.specs.Said.{said, behind, Answers}
 use Rattle.iter.specs.declared.Step.{Step}
@@ -11,14 +12,15 @@ use Rattle.numbers.specs.Numbers.{joined, stepped, writtenBy}
 use Rattle.numbers.specs.declared.JoinedNumbers.{JoinedNumbers}
 use Rattle.numbers.specs.declared.StepNumbers.{StepNumbers}
 use Rattle.numbers.specs.declared.WrittenNumbers.{WrittenNumbers}
-use Rattle.fringewell.specs.Left.{steps, left, joins, leaves, performs}
+use Rattle.fringewell.specs.Left.{stepsUnder, left, joins, leaves, performs}
 
 -- an answer that says a, in the numbers of what it says
 pub through : {A N : Type 0} (numbers : A → N) {n : N} {x a : A} → x ≡ a → n ≡ numbers x → n ≡ numbers a
 through numbers q e = e ∙ ap numbers q
 
-pub step-through : (s : List ℕ) (c : Cursor) (r : Step) (n : StepNumbers) → Answers r c (step s c) → n ≡ stepped (said r) (behind r) → n ≡ steps s c
-step-through s c r n (a, b) e = rw (e, a, b)
+pub step-through : (limit : Limit) (s : List ℕ) (c : Cursor) (r : Step) (n : StepNumbers) → Answers r c (stepUnder limit s c)
+    → n ≡ stepped (said r) (behind r) → n ≡ stepsUnder limit s c
+step-through limit s c r n (a, b) e = rw (e, a, b)
 
 pub join-through : (first second buffer exit : List ℕ) (o : paper.Outcome) (n : JoinedNumbers) → paper.joined o exit ≡ paper.join first second buffer
     → n ≡ joined o → left n exit ≡ joins first second buffer

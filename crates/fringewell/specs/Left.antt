@@ -3,7 +3,8 @@
 use Prim.Native.Nat.{ℕ}
 use mathlib.Core.List.{List}
 use Rattle.bson.specs.Join.{join}
-use Rattle.bson.specs.Step.{Cursor, step, after}
+use Rattle.bson.specs.Cstring.{Limit, unlimited}
+use Rattle.bson.specs.Step.{Cursor, stepUnder, after}
 use Rattle.bson.specs.Writer.{State, Desk, desk, Call, performed}
 use Rattle.numbers.specs.Numbers.{joined, stepped, writtenBy}
 use Rattle.numbers.specs.declared.JoinedNumbers.{JoinedNumbers}
@@ -11,8 +12,11 @@ use Rattle.numbers.specs.declared.StepNumbers.{StepNumbers}
 use Rattle.numbers.specs.declared.WrittenNumbers.{WrittenNumbers}
 
 -- a step, and the cursor behind it
+abbrev pub stepsUnder : Limit → List ℕ → Cursor → StepNumbers
+stepsUnder limit s c = stepped (stepUnder limit s c) (after c (stepUnder limit s c))
+
 abbrev pub steps : List ℕ → Cursor → StepNumbers
-steps s c = stepped (step s c) (after c (step s c))
+steps s c = stepsUnder unlimited s c
 
 -- an answer, and the buffer that is left
 abbrev pub left : JoinedNumbers → List ℕ → JoinedNumbers × List ℕ

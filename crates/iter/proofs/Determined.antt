@@ -17,8 +17,12 @@ use Rattle.iter.specs.declared.Step.{Step}
 use Rattle.iter.specs.declared.Step.the-variants.{Yield, End, Refused}
 use Rattle.iter.proofs.sizes_at.Reads as sizes-at-reads
 use Rattle.iter.proofs.sizes_at.Kinds as sizes-at-kinds
+use Rattle.iter.proofs.next_under.Reads as next-under-reads
+use Rattle.iter.proofs.next_under.Kinds as next-under-kinds
 use Rattle.iter.proofs.next.Reads as next-reads
 use Rattle.iter.proofs.next.Kinds as next-kinds
+use Rattle.iter.proofs.key_at_under.Reads as key-at-under-reads
+use Rattle.iter.proofs.key_at_under.Kinds as key-at-under-kinds
 use Rattle.iter.proofs.key_at.Reads as key-at-reads
 use Rattle.iter.proofs.key_at.Kinds as key-at-kinds
 
@@ -61,9 +65,16 @@ again (Refused number place c) = refl
 both : {A B : Type 0} {a b : A} {c d : B} → a ≡ b → c ≡ d → _≡_ {A = A × B} (a, c) (b, d)
 both e f = cc
 
+pub next-under-determined : (κs : Lfts 1) (a : Dens κs next-under-kinds.ps) → Determined (next-under-reads.Post κs a)
+next-under-determined κs a r₁ r₂ s₁ s₂ p q =
+    injective-by stepped unstepped again r₁ r₂ (both (p .0 ∙ sym (q .0)) (p .1 ∙ sym (q .1)))
+
 pub next-determined : (κs : Lfts 1) (a : Dens κs next-kinds.ps) → Determined (next-reads.Post κs a)
 next-determined κs a r₁ r₂ s₁ s₂ p q =
     injective-by stepped unstepped again r₁ r₂ (both (p .0 ∙ sym (q .0)) (p .1 ∙ sym (q .1)))
+
+pub key-at-under-determined : (κs : Lfts 1) (a : Dens κs key-at-under-kinds.ps) → DeterminedPart now (key-at-under-reads.Post κs a)
+key-at-under-determined κs a r₁ r₂ s₁ s₂ p q = p ∙ sym q
 
 pub key-at-determined : (κs : Lfts 1) (a : Dens κs key-at-kinds.ps) → DeterminedPart now (key-at-reads.Post κs a)
 key-at-determined κs a r₁ r₂ s₁ s₂ p q = p ∙ sym q

@@ -4,7 +4,8 @@ ghost use mathlib.Core.Bool.{true, false};
 ghost use Prim.Native.Nat.{_<_};
 ghost use lib.ListN.{length};
 ghost use Rattle.bson.specs.Answer.{at};
-ghost use Rattle.bson.specs.Step.{cursor, yielding, step, keyAt};
+ghost use Rattle.bson.specs.Step.{cursor, yieldingUnder, stepUnder, keyAtUnder, step, keyAt};
+ghost use Rattle.cstr.specs.Said.{limitOf};
 ghost use Rattle.iter.specs.Said.{saidCursor, saidSizes, Answers};
 use cstr::Length;
 use part::Part;
@@ -46,18 +47,18 @@ pub enum Sizes {
     Refused { number: u8, place: usize },
 }
 
-// Key, tag, framing, in this order: 6, 7, then the refusals of the value's class.
-fn element_at(s: &[u8], place: usize) -> Sizes
+// Key, tag, framing, in this order: under a limit 22; 6, 7, then the refusals of the value's class.
+fn element_at(s: &[u8], place: usize, limit: usize) -> Sizes
     requires { ⌜ place < length (now s) ⌝ }
-    ensures { λ r. ⌜ saidSizes place r ≡ at place (yielding (now (s .entry)) place) ⌝ }
+    ensures { λ r. ⌜ saidSizes place r ≡ at place (yieldingUnder (limitOf limit) (now (s .entry)) place) ⌝ }
 {
     let start = place + 1;
-    match cstr::read_cstring(&s[start..]) {
+    match cstr::read_cstring_with_max_len(&s[start..], limit) {
         Length::Refused(why) => Sizes::Refused { number: why, place },
         Length::Is(key) => {
             let tag = s[place];
             let offset = start + key + 1;
-            match framing::value_len(tag, &s[offset..]) {
+            match framing::value_len(tag, &s[offset..], limit) {
                 Length::Refused(number) => Sizes::Refused { number, place },
                 Length::Is(value) => Sizes::Yield { tag, key, value },
             }
@@ -66,8 +67,8 @@ fn element_at(s: &[u8], place: usize) -> Sizes
 }
 
 // The step at an open cursor, which all steps go through: admission 1, 2, 3; 4; the end at the terminator; then the element.
-pub fn sizes_at(s: &[u8], offset: usize) -> Sizes
-    ensures { λ r. ⌜ saidSizes offset r ≡ step (now (s .entry)) (cursor offset false) ⌝ }
+pub fn sizes_at(s: &[u8], offset: usize, limit: usize) -> Sizes
+    ensures { λ r. ⌜ saidSizes offset r ≡ stepUnder (limitOf limit) (now (s .entry)) (cursor offset false) ⌝ }
 {
     match raw::admit(s) {
         Length::Refused(number) => Sizes::Refused { number, place: 0 },
@@ -79,7 +80,7 @@ pub fn sizes_at(s: &[u8], offset: usize) -> Sizes
             let terminator = n - 1;
             if offset < terminator {
                 if 4 <= offset {
-                    return element_at(s, offset);
+                    return element_at(s, offset, limit);
                 }
                 return outside;
             }
@@ -92,8 +93,8 @@ pub fn sizes_at(s: &[u8], offset: usize) -> Sizes
 }
 
 // The step at an ended cursor: admission, then the end.
-fn stay(s: &[u8], offset: usize) -> Step
-    ensures { λ r. ⌜ Answers r (cursor offset true) (step (now (s .entry)) (cursor offset true)) ⌝ }
+fn stay(s: &[u8], offset: usize, limit: usize) -> Step
+    ensures { λ r. ⌜ Answers r (cursor offset true) (stepUnder (limitOf limit) (now (s .entry)) (cursor offset true)) ⌝ }
 {
     let next = Cursor {
         offset,
@@ -110,14 +111,14 @@ fn stay(s: &[u8], offset: usize) -> Step
 }
 
 // The step at an open cursor: the next one begins where the element's value ends.
-fn advance(s: &[u8], offset: usize) -> Step
-    ensures { λ r. ⌜ Answers r (cursor offset false) (step (now (s .entry)) (cursor offset false)) ⌝ }
+fn advance(s: &[u8], offset: usize, limit: usize) -> Step
+    ensures { λ r. ⌜ Answers r (cursor offset false) (stepUnder (limitOf limit) (now (s .entry)) (cursor offset false)) ⌝ }
 {
     let next = Cursor {
         offset,
         ended: true,
     };
-    match sizes_at(s, offset) {
+    match sizes_at(s, offset, limit) {
         Sizes::End => Step::End { next },
         Sizes::Refused { number, place } => Step::Refused {
             number,
@@ -150,20 +151,27 @@ fn advance(s: &[u8], offset: usize) -> Step
 }
 
 // The step at a cursor: admission 1, 2, 3; an ended cursor ends; 4; the end at the terminator; then the element.
+pub fn next_under(s: &[u8], cursor: Cursor, limit: usize) -> Step
+    ensures { λ r. ⌜ Answers r (saidCursor cursor) (stepUnder (limitOf limit) (now (s .entry)) (saidCursor cursor)) ⌝ }
+{
+    if cursor.ended {
+        return stay(s, cursor.offset, limit);
+    }
+    advance(s, cursor.offset, limit)
+}
+
+// The same without a limit.
 pub fn next(s: &[u8], cursor: Cursor) -> Step
     ensures { λ r. ⌜ Answers r (saidCursor cursor) (step (now (s .entry)) (saidCursor cursor)) ⌝ }
 {
-    if cursor.ended {
-        return stay(s, cursor.offset);
-    }
-    advance(s, cursor.offset)
+    next_under(s, cursor, cstr::NO_LIMIT)
 }
 
 // The key of the element that the step yields, as a part of the slice; empty where the step, its twin, yields none.
-pub fn key_at<'a>(s: &'a [u8], cursor: Cursor) -> &'a [u8]
-    ensures { λ r. ⌜ now r ≡ keyAt (now (s .entry)) (saidCursor cursor) ⌝ }
+pub fn key_at_under<'a>(s: &'a [u8], cursor: Cursor, limit: usize) -> &'a [u8]
+    ensures { λ r. ⌜ now r ≡ keyAtUnder (limitOf limit) (now (s .entry)) (saidCursor cursor) ⌝ }
 {
-    match next(s, cursor) {
+    match next_under(s, cursor, limit) {
         Step::Yield { element, next: _ } => {
             let key = element.key;
             part::bytes_of(s, key)
@@ -175,4 +183,11 @@ pub fn key_at<'a>(s: &'a [u8], cursor: Cursor) -> &'a [u8]
             next: _,
         } => &s[..0],
     }
+}
+
+// The same without a limit.
+pub fn key_at<'a>(s: &'a [u8], cursor: Cursor) -> &'a [u8]
+    ensures { λ r. ⌜ now r ≡ keyAt (now (s .entry)) (saidCursor cursor) ⌝ }
+{
+    key_at_under(s, cursor, cstr::NO_LIMIT)
 }

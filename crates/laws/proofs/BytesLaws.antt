@@ -45,6 +45,11 @@ pub bytes-length : (s : List ℕ) (p : Part) → p .offset + p .size ≤ length 
 unfolding bytes
 bytes-length s p h = simp (length-take, length-drop) (omega arith)
 
+-- `&s[a..b]` is a part of the slice
+pub slice-part : (s : List ℕ) (p : Part) → take (p .offset + p .size - p .offset) (drop (p .offset) s) ≡ bytes s p
+unfolding bytes
+slice-part s p = let n : p .offset + p .size - p .offset ≡ p .size = omega arith in rw n
+
 -- a part without its front is the rest of its bytes
 pub bytes-trim : (s : List ℕ) (p : Part) (front : ℕ) → p .offset + p .size ≤ length s → front ≤ p .size
     → bytes s (trim front 0 p) ≡ drop front (bytes s p)

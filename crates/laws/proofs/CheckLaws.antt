@@ -10,12 +10,13 @@ use lib.Dec.{leb}
 use borrow.Author.Tests.{leb-true, le-leb}
 use Rattle.bson.specs.Answer.{Answer, gives, refuses, then}
 use Rattle.bson.specs.Bytes.{bytes}
-use Rattle.bson.specs.Step.{Cursor, cursor, Element, past, yield, end, step, Iteration, ended, broken, more, onward, iterate}
+use Rattle.bson.specs.Step.{Cursor, cursor, Element, past, yield, end, Iteration, ended, broken, more, onward, stepUnder, iterateUnder}
 use Rattle.bson.specs.Value.{Value, valueOf}
 use Rattle.bson.specs.Level.{Opening, closed, opens, opening, Level, deeper}
-use Rattle.bson.specs.Check.{Walk, keyPasses, visit, inside, opened, along, walkFor, walk}
+use Rattle.bson.specs.Check.{Walk, keyPasses, visit, inside, opened, along, walkFor, walkUnder}
 use Rattle.laws.proofs.AnswerLaws.{never, gives-injective, unless-gives, then-gives, then-same, at-gives}
 use Rattle.laws.proofs.StepLaws.{Yields, iterate-eq, Each, iterate-each}
+use Rattle.bson.specs.Cstring.{Limit}
 use Rattle.laws.proofs.OpenLaws.{value-opens, opens-shorter}
 
 module _ (strict : Bool) (s : List ℕ) (l : Level) (position : ℕ) (e : Element) where
@@ -59,37 +60,37 @@ module _ (strict : Bool) (s : List ℕ) (w x : Walk) (h : (v : List ℕ) (k : Le
   along-same l position offset (more e rest) g = rw (opened-same l position _ e (g .0), along-same l (suc position) _ rest (g .1))
 
 -- as many levels as bytes, and one, are enough, so more change nothing
-enough : (strict : Bool) (n m : ℕ) (s : List ℕ) (l : Level) → length s < n → length s < m → walkFor n strict s l ≡ walkFor m strict s l
+enough : (limit : Limit) (strict : Bool) (n m : ℕ) (s : List ℕ) (l : Level) → length s < n → length s < m → walkFor limit n strict s l ≡ walkFor limit m strict s l
 unfolding walkFor
-enough strict zero m s l h k = absurd (omega arith)
-enough strict (suc n) zero s l h k = absurd (omega arith)
-enough strict (suc n) (suc m) s l h k =
-    along-same strict s (walkFor n strict) (walkFor m strict)
-    (λ v d i. enough strict n m v d (omega arith) (omega arith)) l 0 4 (iterate s 4) (iterate-each s 4)
+enough limit strict zero m s l h k = absurd (omega arith)
+enough limit strict (suc n) zero s l h k = absurd (omega arith)
+enough limit strict (suc n) (suc m) s l h k =
+    along-same strict s (walkFor limit n strict) (walkFor limit m strict)
+    (λ v d i. enough limit strict n m v d (omega arith) (omega arith)) l 0 4 (iterateUnder limit s 4) (iterate-each limit s 4)
 
 -- the walk from an offset on, behind so many elements
-abbrev pub walk-from : Bool → List ℕ → Level → ℕ → ℕ → Answer ℕ
-walk-from strict s l position offset = along strict (walk strict) s l position (iterate s offset)
+abbrev pub walk-from : Limit → Bool → List ℕ → Level → ℕ → ℕ → Answer ℕ
+walk-from limit strict s l position offset = along strict (walkUnder limit strict) s l position (iterateUnder limit s offset)
 
-pub walk-eq : (strict : Bool) (s : List ℕ) (l : Level) → walk strict s l ≡ walk-from strict s l 0 4
-unfolding walk walkFor
-walk-eq strict s l =
-    along-same strict s (walkFor (length s) strict) (walk strict)
-    (λ v d i. enough strict (length s) (suc (length v)) v d i (omega arith)) l 0 4 (iterate s 4) (iterate-each s 4)
+pub walk-eq : (limit : Limit) (strict : Bool) (s : List ℕ) (l : Level) → walkUnder limit strict s l ≡ walk-from limit strict s l 0 4
+unfolding walkUnder walkFor
+walk-eq limit strict s l =
+    along-same strict s (walkFor limit (length s) strict) (walkUnder limit strict)
+    (λ v d i. enough limit strict (length s) (suc (length v)) v d i (omega arith)) l 0 4 (iterateUnder limit s 4) (iterate-each limit s 4)
 
-module _ (strict : Bool) (s : List ℕ) (l : Level) (position offset : ℕ) where
-  walked : walk-from strict s l position offset ≡ along strict (walk strict) s l position (onward (step s (cursor offset false)) (iterate s))
-  walked = ap (along strict (walk strict) s l position) (iterate-eq s offset)
+module _ (limit : Limit) (strict : Bool) (s : List ℕ) (l : Level) (position offset : ℕ) where
+  walked : walk-from limit strict s l position offset ≡ along strict (walkUnder limit strict) s l position (onward (stepUnder limit s (cursor offset false)) (iterateUnder limit s))
+  walked = ap (along strict (walkUnder limit strict) s l position) (iterate-eq limit s offset)
 
-  pub walk-ends : step s (cursor offset false) ≡ gives end → walk-from strict s l position offset ≡ gives 0
+  pub walk-ends : stepUnder limit s (cursor offset false) ≡ gives end → walk-from limit strict s l position offset ≡ gives 0
   walk-ends e = walked ∙ rw e
 
-  pub walk-refused : (n p : ℕ) → step s (cursor offset false) ≡ refuses n p → walk-from strict s l position offset ≡ refuses n (l .base + p)
+  pub walk-refused : (n p : ℕ) → stepUnder limit s (cursor offset false) ≡ refuses n p → walk-from limit strict s l position offset ≡ refuses n (l .base + p)
   walk-refused n p e = walked ∙ rw e
 
-  pub walk-onward : (e : Element) → step s (cursor offset false) ≡ gives (yield e)
-      → walk-from strict s l position offset
-      ≡ (then (opened strict (walk strict) s l position e) λ n. then (walk-from strict s l (suc position) (past e)) λ m. gives (n + m))
+  pub walk-onward : (e : Element) → stepUnder limit s (cursor offset false) ≡ gives (yield e)
+      → walk-from limit strict s l position offset
+      ≡ (then (opened strict (walkUnder limit strict) s l position e) λ n. then (walk-from limit strict s l (suc position) (past e)) λ m. gives (n + m))
   walk-onward e y = walked ∙ rw y
 
 -- a document has no more values than bytes
@@ -123,20 +124,20 @@ module _ (strict : Bool) (s : List ℕ) (w : Walk) (h : (v : List ℕ) (k : Leve
       let y = g .0 in
       omega (arith, opened-few l position (cursor offset false) e y a q, along-few l (suc position) (past e) rest (g .1) m z)
 
-few-for : (f : ℕ) (strict : Bool) (s : List ℕ) (l : Level) (n : ℕ) → length s < f → walk strict s l ≡ gives n → n ≤ length s
-few-for zero strict s l n i x = absurd (omega arith)
-few-for (suc f) strict s l n i x =
+few-for : (limit : Limit) (f : ℕ) (strict : Bool) (s : List ℕ) (l : Level) (n : ℕ) → length s < f → walkUnder limit strict s l ≡ gives n → n ≤ length s
+few-for limit zero strict s l n i x = absurd (omega arith)
+few-for limit (suc f) strict s l n i x =
     omega (
       arith,
-      along-few strict s (walk strict) (λ v k m j y. few-for f strict v k m (omega arith) y) l 0 4 (iterate s 4) (iterate-each s 4) n
-          (sym (walk-eq strict s l) ∙ x),
+      along-few strict s (walkUnder limit strict) (λ v k m j y. few-for limit f strict v k m (omega arith) y) l 0 4 (iterateUnder limit s 4) (iterate-each limit s 4) n
+          (sym (walk-eq limit strict s l) ∙ x),
     )
 
-walk-few : (strict : Bool) (v : List ℕ) (k : Level) (m : ℕ) → walk strict v k ≡ gives m → m ≤ length v
-walk-few strict v k m x = few-for (suc (length v)) strict v k m (omega arith) x
+walk-few : (limit : Limit) (strict : Bool) (v : List ℕ) (k : Level) (m : ℕ) → walkUnder limit strict v k ≡ gives m → m ≤ length v
+walk-few limit strict v k m x = few-for limit (suc (length v)) strict v k m (omega arith) x
 
 -- an element brings fewer values than it has bytes
-pub opened-count : (strict : Bool) (s : List ℕ) (l : Level) (position : ℕ) (c : Cursor) (e : Element) → Yields s c e
-    → (n : ℕ) → opened strict (walk strict) s l position e ≡ gives n → c .offset + n < past e
-opened-count strict s l position c e y n x =
-    opened-few strict s (walk strict) (λ v k m j q. walk-few strict v k m q) l position c e y n x
+pub opened-count : (limit : Limit) (strict : Bool) (s : List ℕ) (l : Level) (position : ℕ) (c : Cursor) (e : Element) → Yields s c e
+    → (n : ℕ) → opened strict (walkUnder limit strict) s l position e ≡ gives n → c .offset + n < past e
+opened-count limit strict s l position c e y n x =
+    opened-few strict s (walkUnder limit strict) (λ v k m j q. walk-few limit strict v k m q) l position c e y n x

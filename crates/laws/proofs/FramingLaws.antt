@@ -9,12 +9,12 @@ use lib.Dec.{leb, eqb}
 use borrow.Author.Tests.{leb-true, leb-false, ltb-true, eqb-true}
 use Rattle.bson.specs.Answer.{gives, refuses}
 use Rattle.bson.specs.Bytes.{le32, natural, Part, part}
-use Rattle.bson.specs.Cstring.{cstring}
+use Rattle.bson.specs.Cstring.{Limit, most, cstringUnder, cstring}
 use Rattle.bson.specs.Tags.{Sized, fixed, asString, asPointer, asDocument, asBinary, asRegex, asScope, sizedOf}
-use Rattle.bson.specs.Framing.{lengthField, fits, inFront, zeroEnded, stringSize, pointerSize, documentSize, binarySize, scopeSize}
-use Rattle.bson.specs.Framing.{patternOptions, regexSize, framed, valueSize}
+use Rattle.bson.specs.Framing.{lengthField, fits, inFront, zeroEnded, stringSize, pointerSize, documentSize, binarySize, scopeSize, patternOptions}
+use Rattle.bson.specs.Framing.{regexSize, framed, valueSize, framedUnder, patternOptionsUnder, regexSizeUnder, valueSizeUnder}
 use Rattle.laws.proofs.Common.{split}
-use Rattle.laws.proofs.CstringLaws.{cstring-below}
+use Rattle.laws.proofs.CstringLaws.{cstring-below, cstring-under, cstring-most, cstring-kept}
 use Rattle.laws.proofs.AnswerLaws.{never, gives-injective, unless-gives, then-gives}
 
 pub length-field-is : (present least : ℕ) (v : List ℕ) (n : ℕ) → lengthField present least v ≡ gives n
@@ -111,7 +111,7 @@ scope-is v n e =
 -- the options begin behind the pattern's zero, and their zero is in the list too
 pub pattern-options-fit : (v : List ℕ) (r : Part × Part) → patternOptions v ≡ gives r
     → (r .0 .offset ≡ 0) × (r .1 .offset ≡ r .0 .size + 1) × (r .1 .offset + r .1 .size < length v)
-unfolding patternOptions
+unfolding patternOptionsUnder
 pattern-options-fit v r e =
     let (p, q, h) = then-gives (cstring v) _ e in
     let (o, u, g) = then-gives (cstring (drop (p + 1) v)) _ h in
@@ -121,7 +121,7 @@ pattern-options-fit v r e =
 -- two texts, each with its zero
 pub regex-is : (v : List ℕ) (n : ℕ) → regexSize v ≡ gives n
     → (p : ℕ) × (o : ℕ) × (cstring v ≡ gives p) × (cstring (drop (p + 1) v) ≡ gives o) × (n ≡ p + 1 + (o + 1))
-unfolding regexSize patternOptions
+unfolding regexSizeUnder patternOptionsUnder
 regex-is v n e =
     let (r, q, h) = then-gives (patternOptions v) _ e in
     let (p, x, q1) = then-gives (cstring v) _ q in
@@ -130,14 +130,14 @@ regex-is v n e =
     (p, o, x, y, sym (ap (λ (z : Part × Part). z .0 .size + 1 + (z .1 .size + 1)) i ∙ gives-injective h))
 
 pub regex-fits : (v : List ℕ) (n : ℕ) → regexSize v ≡ gives n → n ≤ length v
-unfolding regexSize
+unfolding regexSizeUnder
 regex-fits v n e =
     let (r, q, h) = then-gives (patternOptions v) _ e in
     let f = pattern-options-fit v r q in
     omega (arith, gives-injective h)
 
 pub framed-fits : (z : Sized) (v : List ℕ) (n : ℕ) → framed z v ≡ gives n → n ≤ length v
-unfolding framed
+unfolding framedUnder
 framed-fits (fixed m) v n e = fits-is m v n e .1
 framed-fits asString v n e = string-is v n e .2
 framed-fits asPointer v n e = pointer-is v n e .1
@@ -147,5 +147,51 @@ framed-fits asRegex v n e = regex-fits v n e
 framed-fits asScope v n e = scope-is v n e .1
 
 pub value-size-fits : (tag : ℕ) (v : List ℕ) (n : ℕ) → valueSize tag v ≡ gives n → n ≤ length v
-unfolding valueSize
+unfolding valueSizeUnder
 value-size-fits tag v n e = let (z, q, h) = then-gives (sizedOf tag) _ e in framed-fits z v n h
+
+-- a size that is given under a limit is given without one
+pub pattern-options-under : (limit : Limit) (v : List ℕ) (r : Part × Part) → patternOptionsUnder limit v ≡ gives r → patternOptions v ≡ gives r
+unfolding patternOptionsUnder
+pattern-options-under limit v r e =
+    let (p, q, h) = then-gives (cstringUnder _ v) _ e in
+    let (o, u, g) = then-gives (cstringUnder _ (drop (p + 1) v)) _ h in
+    rw (cstring-under _ v p q, cstring-under _ (drop (p + 1) v) o u) g
+
+-- a pattern and options that a limit lets through have no more bytes than it says, and the other way round
+pub pattern-options-most : (m : ℕ) (v : List ℕ) (r : Part × Part) → patternOptionsUnder (most m) v ≡ gives r → (r .0 .size ≤ m) × (r .1 .size ≤ m)
+unfolding patternOptionsUnder
+pattern-options-most m v r e =
+    let (p, q, h) = then-gives (cstringUnder _ v) _ e in
+    let (o, u, g) = then-gives (cstringUnder _ (drop (p + 1) v)) _ h in
+    let i : _≡_ {A = Part × Part} (part 0 p, part (p + 1) o) r = gives-injective g in
+    rw (← i) (cstring-most m v p q, cstring-most m (drop (p + 1) v) o u)
+
+pub pattern-options-kept : (m : ℕ) (v : List ℕ) (r : Part × Part) → patternOptions v ≡ gives r → r .0 .size ≤ m → r .1 .size ≤ m
+    → patternOptionsUnder (most m) v ≡ gives r
+unfolding patternOptionsUnder
+pattern-options-kept m v r e j k =
+    let (p, q, h) = then-gives (cstring v) _ e in
+    let (o, u, g) = then-gives (cstring (drop (p + 1) v)) _ h in
+    let i : _≡_ {A = Part × Part} (part 0 p, part (p + 1) o) r = gives-injective g in
+    let a : p ≤ m = rw (← i) at j in
+    let b : o ≤ m = rw (← i) at k in
+    rw (cstring-kept m v p q a, cstring-kept m (drop (p + 1) v) o u b) g
+
+framed-under : (limit : Limit) (z : Sized) (v : List ℕ) (n : ℕ) → framedUnder limit z v ≡ gives n → framed z v ≡ gives n
+unfolding framedUnder regexSizeUnder
+framed-under limit (fixed m) v n e = e
+framed-under limit asString v n e = e
+framed-under limit asPointer v n e = e
+framed-under limit asDocument v n e = e
+framed-under limit asBinary v n e = e
+framed-under limit asRegex v n e =
+    let (r, q, h) = then-gives (patternOptionsUnder _ v) _ e in
+    rw (pattern-options-under _ v r q) h
+framed-under limit asScope v n e = e
+
+pub value-size-under : (limit : Limit) (tag : ℕ) (v : List ℕ) (n : ℕ) → valueSizeUnder limit tag v ≡ gives n → valueSize tag v ≡ gives n
+unfolding valueSizeUnder
+value-size-under limit tag v n e =
+    let (z, q, h) = then-gives (sizedOf tag) _ e in
+    rw q (framed-under _ z v n h)

@@ -7,13 +7,13 @@ use mathlib.Core.Bool.{true, false}
 use native.Mathlib.Nat.{mod-eq-of-lt}
 use native.Mathlib.Omega.{arith}
 use lib.ListN.{length, getD, take, drop, length-append, length-take, length-drop, take-append-drop, List·getD-eq-default}
-use lib.Seq.{length-take-le, getD-take, getD-drop, take-suc, take-take, take-add, take-all, drop-drop, split-at}
+use lib.Seq.{length-take-le, getD-take, getD-drop, take-suc, take-take, take-add, take-all, take-append-seam, drop-drop, split-at}
 use lib.Dec.{ltb, eqb}
 use borrow.Author.Tests.{ltb-true, ltb-false, eqb-true}
 use Rattle.bson.specs.Answer.{gives}
 use Rattle.bson.specs.Bytes.{AreBytes, le32, le64, i32, i64, signed, Part, part, bytes}
 use Rattle.bson.specs.Cstring.{validCstr}
-use Rattle.bson.specs.Framing.{stringSize, pointerSize, regexSize}
+use Rattle.bson.specs.Framing.{stringSize, pointerSize, regexSize, patternOptions}
 use Rattle.bson.specs.Step.{admitted}
 use Rattle.bson.specs.Grammar.{bytes32, bytes64, unsigned, stringBytes, binaryBytes, scopeBytes, documentOf, Ranged}
 use Rattle.laws.proofs.AnswerLaws.{then-gives}
@@ -21,6 +21,7 @@ use Rattle.laws.proofs.BytesLaws.{bytes-length, bytes-drop}
 use Rattle.laws.proofs.Common.{split}
 use Rattle.laws.proofs.CstringLaws.{cstring-below, cstring-valid, cstring-splits}
 use Rattle.laws.proofs.FramingLaws.{fits-is, string-is, regex-is}
+use Rattle.laws.proofs.GrammarLaws.{pattern-options-of}
 use Rattle.laws.proofs.StepLaws.{admitted-says}
 
 -- bytes of bytes
@@ -226,3 +227,15 @@ regex-back v n e =
       is = cstring-splits v p x ∙ ap (λ (z : List ℕ). a ++ (0 ∷ z)) (cstring-splits w o y) ∙ simp append-assoc;
       size = simp length-append (omega arith);
     }
+
+-- its own bytes answer as they do with what is behind them
+pub regex-alone : (v : List ℕ) (n : ℕ) → regexSize v ≡ gives n → patternOptions (take n v) ≡ patternOptions v
+regex-alone v n e =
+    let r = regex-back v n e in
+    let a = r .pattern in
+    let o = r .options in
+    let behind : v ≡ a ++ (0 ∷ (o ++ (0 ∷ r .behind))) = r .is ∙ simp append-assoc in
+    let alone : take n v ≡ a ++ (0 ∷ (o ++ (0 ∷ []))) =
+    ap (λ (k : ℕ). take k v) (r .size) ∙ ap (take (length (a ++ (0 ∷ (o ++ (0 ∷ [])))))) (r .is) ∙ take-append-seam _ (r .behind) in
+    let said = pattern-options-of a o [] (r .pattern-valid) (r .options-valid) in
+    ap patternOptions alone ∙ said ∙ sym (ap patternOptions behind ∙ pattern-options-of a o (r .behind) (r .pattern-valid) (r .options-valid))

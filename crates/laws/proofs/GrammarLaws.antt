@@ -14,9 +14,9 @@ use borrow.Author.Tests.{le-leb, lt-ltb, le-ltb, eq-eqb, eqb-true}
 use Rattle.bson.specs.Answer.{gives, then}
 use Rattle.bson.specs.Bytes.{le32, le64, i32, i64, signed, part}
 use Rattle.bson.specs.Utf8.{utf8}
-use Rattle.bson.specs.Cstring.{isZero, firstZero, cstring, validCstr}
-use Rattle.bson.specs.Framing.{lengthField, fits, inFront, zeroEnded, stringSize, pointerSize, documentSize, binarySize, scopeSize}
-use Rattle.bson.specs.Framing.{patternOptions, regexSize}
+use Rattle.bson.specs.Cstring.{isZero, firstZero, cstring, validCstr, cstringUnder, zeroText}
+use Rattle.bson.specs.Framing.{lengthField, fits, inFront, zeroEnded, stringSize, pointerSize, documentSize, binarySize, scopeSize, patternOptions}
+use Rattle.bson.specs.Framing.{regexSize, patternOptionsUnder, regexSizeUnder}
 use Rattle.bson.specs.Step.{admitted}
 use Rattle.bson.specs.Grammar.{bytes32, bytes64, unsigned, stringBytes, elementBytes, documentOf, Ranged}
 use Rattle.laws.proofs.Common.{split, both-hold}
@@ -89,7 +89,7 @@ first-zero (b ∷ key) rest e =
     (λ t. let i : suc (firstZero key) ≡ suc (length key) = rw t at e in rw t (ap suc (first-zero key rest (omega arith))))
 
 pub cstring-of : (key rest : List ℕ) → validCstr key ≡ true → cstring (key ++ (0 ∷ rest)) ≡ gives (length key)
-unfolding cstring validCstr
+unfolding zeroText cstringUnder validCstr
 cstring-of key rest h =
     let (z, u) = both-hold (eqb (firstZero key) (length key)) (utf8 key) h in
     let l : length key < length (key ++ (0 ∷ rest)) = omega (arith, length-append key (0 ∷ rest)) in
@@ -97,7 +97,7 @@ cstring-of key rest h =
 
 pub pattern-options-of : (p o rest : List ℕ) → validCstr p ≡ true → validCstr o ≡ true
     → patternOptions (p ++ (0 ∷ (o ++ (0 ∷ rest)))) ≡ gives (part 0 (length p), part (length p + 1) (length o))
-unfolding patternOptions
+unfolding patternOptionsUnder
 pattern-options-of p o rest h k =
     rw (cstring-of p (o ++ (0 ∷ rest)) h, drop-append-add p (0 ∷ (o ++ (0 ∷ rest))) 1, cstring-of o rest k)
 
@@ -217,7 +217,7 @@ scope-of n w rest e h =
 
 pub regex-of : (p o rest : List ℕ) → validCstr p ≡ true → validCstr o ≡ true
     → regexSize (p ++ (0 ∷ (o ++ (0 ∷ []))) ++ rest) ≡ gives (length (p ++ (0 ∷ (o ++ (0 ∷ [])))))
-unfolding regexSize
+unfolding regexSizeUnder
 regex-of p o rest h k =
     let e : p ++ (0 ∷ (o ++ (0 ∷ []))) ++ rest ≡ p ++ (0 ∷ (o ++ (0 ∷ rest))) = simp append-assoc in
     rw (e, pattern-options-of p o rest h k) (ap gives (simp length-append (omega arith)))

@@ -12,7 +12,7 @@ use borrow.Author.Tests.{leb-true}
 use Rattle.bson.specs.Answer.{Answer, gives, refuses}
 use Rattle.bson.specs.Step.{admitted, cursor}
 use Rattle.bson.specs.Level.{outermost}
-use Rattle.bson.specs.Check.{check}
+use Rattle.bson.specs.Check.{check, checkUnder}
 use Rattle.bson.specs.Grammar.{bytes32, documentOf}
 use Rattle.bson.specs.Output.{Output, output, put, putTexts}
 use Rattle.bson.specs.Output as Texts
@@ -28,12 +28,12 @@ use Rattle.laws.proofs.WriterLaws.{room-within}
 
 -- what passes the check is admitted, so it has a length and a terminator
 pub check-admits : (strict : Bool) (s : List ℕ) (n : ℕ) → check strict s ≡ gives n → 5 ≤ length s
-unfolding check
+unfolding checkUnder
 check-admits strict s n e = by (admitted s) refl
   where
     by : (a : Answer ℕ) → admitted s ≡ a → 5 ≤ length s
     by (gives m) q = admitted-says s m q .0
-    by (refuses k p) q = never (sym (walk-eq strict s outermost ∙ walk-refused strict s outermost 0 4 k p (step-unadmitted s (cursor 4 false) k p q)) ∙ e)
+    by (refuses k p) q = never (sym (walk-eq _ strict s outermost ∙ walk-refused _ strict s outermost 0 4 k p (step-unadmitted _ s (cursor 4 false) k p q)) ∙ e)
 
 length-body : (s : List ℕ) → 5 ≤ length s → length (body s) ≡ length s - 5
 unfolding body

@@ -1,6 +1,6 @@
 -- Lookup goes from step to step: what each answer of the step at an offset means for the search from there; what is found is had again at its
 -- place, and lies in the slice; and a typed getter gives the number of the value found (document 01, "Values"). Assumes nothing.
-use Prim.Native.Nat.{ℕ, _+_, _≤_}
+use Prim.Native.Nat.{ℕ, zero, suc, _+_, _≤_}
 use mathlib.Core.Path.{_≡_, refl, sym, ap, subst, _∙_}
 use mathlib.Core.List.{List}
 use mathlib.Core.Bool.{Bool, true, false}
@@ -10,38 +10,39 @@ use lib.Dec.{leb, eqb}
 use borrow.Author.Tests.{eqb-true}
 use Rattle.bson.specs.Answer.{Answer, gives, refuses, at}
 use Rattle.bson.specs.Bytes.{le64, i32, i64, Part, bytes, same}
+use Rattle.bson.specs.Cstring.{Limit}
 use Rattle.bson.specs.Tags.{ElementType, Boolean, Int32, Double, Int64, DateTime, Timestamp, tags, rowOf, typeOf}
 use Rattle.bson.specs.Framing.{inFront}
-use Rattle.bson.specs.Step.{Cursor, cursor, Element, past, yield, end, step, Iteration, ended, broken, more, onward, iterate}
+use Rattle.bson.specs.Step.{cursor, Element, past, Step, yield, end, stepUnder, Iteration, onward, iterateFor, iterateUnder}
 use Rattle.bson.specs.Value.{Leaf, leaf, boolean, int32, int64, dateTime, double, timestamp, asLeaf, bool, timestampOf}
-use Rattle.bson.specs.Value.{content, valueIn, valueOf, readAt}
-use Rattle.bson.specs.Lookup.{Found, found, first, get, getWith, typed}
+use Rattle.bson.specs.Value.{content, valueIn, valueOf, readAtUnder}
+use Rattle.bson.specs.Lookup.{Found, found, first, getUnder, getWithUnder, getWith, typed}
 use Rattle.laws.proofs.AnswerLaws.{never, gives-injective, unless-gives, then-gives, at-gives}
 use Rattle.laws.proofs.ReadLaws.{read-step}
 use Rattle.laws.proofs.Common.{split}
 use Rattle.laws.proofs.AdvanceLaws.{ended-at}
-use Rattle.laws.proofs.StepLaws.{Yields, yields-step, iterate-eq, Each, iterate-each}
+use Rattle.laws.proofs.StepLaws.{step-yields, iterate-eq}
 use Rattle.laws.proofs.PartLaws.{BothEnd, parts-inside}
 
 -- the search from an offset on
-abbrev pub search-from : List ℕ → List ℕ → ℕ → Answer Found
-search-from s key offset = first s key (iterate s offset)
+abbrev pub search-from : Limit → List ℕ → List ℕ → ℕ → Answer Found
+search-from limit s key offset = first s key (iterateUnder limit s offset)
 
-module _ (s key : List ℕ) (offset : ℕ) where
-  searched : search-from s key offset ≡ first s key (onward (step s (cursor offset false)) (iterate s))
-  searched = ap (first s key) (iterate-eq s offset)
+module _ (limit : Limit) (s key : List ℕ) (offset : ℕ) where
+  searched : search-from limit s key offset ≡ first s key (onward (stepUnder limit s (cursor offset false)) (iterateUnder limit s))
+  searched = ap (first s key) (iterate-eq limit s offset)
 
-  pub search-ends : step s (cursor offset false) ≡ gives end → search-from s key offset ≡ refuses 16 offset
-  search-ends e = searched ∙ rw (e, ended-at s offset e)
+  pub search-ends : stepUnder limit s (cursor offset false) ≡ gives end → search-from limit s key offset ≡ refuses 16 offset
+  search-ends e = searched ∙ rw (e, ended-at _ s offset e)
 
-  pub search-refused : (n p : ℕ) → step s (cursor offset false) ≡ refuses n p → search-from s key offset ≡ refuses n p
+  pub search-refused : (n p : ℕ) → stepUnder limit s (cursor offset false) ≡ refuses n p → search-from limit s key offset ≡ refuses n p
   search-refused n p e = searched ∙ rw e
 
-  module _ (e : Element) (y : step s (cursor offset false) ≡ gives (yield e)) where
-    pub search-found : same key (bytes s (e .key)) ≡ true → search-from s key offset ≡ found s e
+  module _ (e : Element) (y : stepUnder limit s (cursor offset false) ≡ gives (yield e)) where
+    pub search-found : same key (bytes s (e .key)) ≡ true → search-from limit s key offset ≡ found s e
     search-found k = searched ∙ rw (y, k)
 
-    pub search-onward : same key (bytes s (e .key)) ≡ false → search-from s key offset ≡ search-from s key (past e)
+    pub search-onward : same key (bytes s (e .key)) ≡ false → search-from limit s key offset ≡ search-from limit s key (past e)
     search-onward k = searched ∙ rw (y, k)
 
 -- a typed getter gives the number in the framed bytes of what the typed lookup finds
@@ -49,46 +50,51 @@ pub typed-is : {A : Type 0} (number : List ℕ → Answer A) (s key : List ℕ) 
     → getWith s key tag ≡ gives f → v ≡ bytes s (f .element .value) → number v ≡ x → at (f .element .place) x ≡ typed number s key tag
 typed-is number s key tag f v x g e q = rw (g, ← e, q)
 
--- what is found: an element that a step yields, and its value as it reads
-pub record Finds (s : List ℕ) (f : Found) : Type 0 where
-  pub at-cursor : Cursor
-  pub yields : Yields s at-cursor (f .element)
+-- what is found: an element that a step at its place yields, and its value as it reads
+pub record Finds (limit : Limit) (s : List ℕ) (f : Found) : Type 0 where
+  pub steps : stepUnder limit s (cursor (f .element .place) false) ≡ gives (yield (f .element))
   pub reads : valueOf s (f .element) ≡ gives (f .value)
 
-first-finds : (s key : List ℕ) (offset : ℕ) (i : Iteration) → Each s offset i → (f : Found) → first s key i ≡ gives f → Finds s f
-unfolding found
-first-finds s key offset ended g f x = never x
-first-finds s key offset (broken n p) g f x = never x
-first-finds s key offset (more e rest) g f x =
-    split (same key (bytes s (e .key)))
-    (λ t. let (v, q, h) = then-gives (valueOf s e) _ (rw t at x) in
-    subst (Finds s) (gives-injective h) (record { at-cursor = _; yields = g .0; reads = q }))
-    (λ t. first-finds s key (past e) rest (g .1) f (rw t at x))
+module _ (limit : Limit) (s key : List ℕ) (f : Found) where
+  onward-finds : (offset : ℕ) (x : Answer Step) (i : ℕ → Iteration) → ((next : ℕ) → first s key (i next) ≡ gives f → Finds limit s f)
+      → stepUnder limit s (cursor offset false) ≡ x → first s key (onward x i) ≡ gives f → Finds limit s f
+  unfolding found
+  onward-finds offset (gives (yield e)) i h y x =
+      split (same key (bytes s (e .key)))
+      (λ t. let (v, q, g) = then-gives (valueOf s e) _ (rw t at x) in
+      let there = rw (← step-yields limit s (cursor offset false) e y .placed) at y in
+      subst (Finds limit s) (gives-injective g) (record { steps = there; reads = q }))
+      (λ t. h (past e) (rw t at x))
+  onward-finds offset (gives end) i h y x = never x
+  onward-finds offset (refuses n p) i h y x = never x
 
-pub get-finds : (s key : List ℕ) (f : Found) → get s key ≡ gives f → Finds s f
-unfolding get
-get-finds s key f x = first-finds s key 4 (iterate s 4) (iterate-each s 4) f x
+  finds-for : (n offset : ℕ) → first s key (iterateFor limit n s offset) ≡ gives f → Finds limit s f
+  unfolding iterateFor
+  finds-for zero offset x = never x
+  finds-for (suc n) offset x = onward-finds offset (stepUnder limit s (cursor offset false)) (iterateFor limit n s) (finds-for n) refl x
 
--- a step at its place yields it, and a read there its value
-pub get-read : (s key : List ℕ) (f : Found) → get s key ≡ gives f
-    → (step s (cursor (f .element .place) false) ≡ gives (yield (f .element))) × (readAt s (f .element .place) ≡ gives (f .value))
-get-read s key f x =
-    let r = get-finds s key f x in
-    let y = yields-step s (r .at-cursor) (f .element) (r .yields) in
-    (y, read-step s (f .element .place) (f .element) y ∙ r .reads)
+  module _ (x : getUnder limit s key ≡ gives f) where
+    pub get-finds : Finds limit s f
+    unfolding getUnder iterateUnder
+    get-finds = finds-for (suc (length s)) 4 x
 
--- it lies in the slice, and so do the parts of its value
-pub get-inside : (s key : List ℕ) (f : Found) → get s key ≡ gives f → (past (f .element) ≤ length s) × BothEnd (length s) (f .value)
-get-inside s key f x =
-    let r = get-finds s key f x in
-    (r .yields .inside, parts-inside s (r .at-cursor) (f .element) (r .yields) (f .value) (r .reads))
+    -- so a read at its place gives its value
+    pub get-read : (stepUnder limit s (cursor (f .element .place) false) ≡ gives (yield (f .element)))
+        × (readAtUnder limit s (f .element .place) ≡ gives (f .value))
+    get-read = (get-finds .steps, read-step limit s (f .element .place) (f .element) (get-finds .steps) ∙ get-finds .reads)
+
+    -- it lies in the slice, and so do the parts of its value
+    pub get-inside : (past (f .element) ≤ length s) × BothEnd (length s) (f .value)
+    get-inside =
+        let y = step-yields limit s _ (f .element) (get-finds .steps) in
+        (y .inside, parts-inside s _ (f .element) y (f .value) (get-finds .reads))
 
 -- what a typed lookup finds was read, and has the tag
-pub get-with-says : (s key : List ℕ) (tag : ℕ) (f : Found) → getWith s key tag ≡ gives f
-    → (get s key ≡ gives f) × (f .element .tag ≡ tag)
-unfolding getWith
-get-with-says s key tag f x =
-    let (g, q, h) = then-gives (get s key) _ x in
+pub get-with-says : (limit : Limit) (s key : List ℕ) (tag : ℕ) (f : Found) → getWithUnder limit s key tag ≡ gives f
+    → (getUnder limit s key ≡ gives f) × (f .element .tag ≡ tag)
+unfolding getWithUnder
+get-with-says limit s key tag f x =
+    let (g, q, h) = then-gives (getUnder _ s key) _ x in
     let (t, h1) = unless-gives (eqb (g .element .tag) tag) 17 _ (at-gives (g .element .place) _ h) in
     let i : g ≡ f = gives-injective h1 in
     (q ∙ ap gives i, sym (ap (λ (d : Found). d .element .tag) i) ∙ eqb-true _ _ t)
@@ -100,8 +106,8 @@ pub typed-reads : {A : Type 0} (number : List ℕ → Answer A) (holds : A → L
 unfolding valueOf valueIn
 typed-reads number holds type s key tag f y r g =
     let p = f .element .value in
-    let (d, t) = get-with-says s key tag f g in
-    let x = get-finds s key f d .reads in
+    let (d, t) = get-with-says _ s key tag f g in
+    let x = get-finds _ s key f d .reads in
     let (u, x1) = unless-gives (leb (p .offset + p .size) (length s)) 9 _ (at-gives (f .element .place) _ x) in
     let (k, q, x2) = then-gives (typeOf (f .element .tag)) _ x1 in
     let i : k ≡ type = gives-injective (sym q ∙ ap typeOf t ∙ y) in

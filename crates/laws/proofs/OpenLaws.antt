@@ -12,7 +12,7 @@ use Rattle.bson.specs.Answer.{Answer, gives}
 use Rattle.bson.specs.Bytes.{le32, le64, i32, i64, Part, part, bytes, trim}
 use Rattle.bson.specs.Utf8.{utf8}
 use Rattle.bson.specs.Tags
-use Rattle.bson.specs.Framing.{inFront, stringSize, documentSize, patternOptions, framed, valueSize}
+use Rattle.bson.specs.Framing.{inFront, stringSize, documentSize, patternOptions, framed, framedUnder, valueSizeUnder}
 use Rattle.bson.specs.Step.{admitted, Cursor, Element, past}
 use Rattle.bson.specs.Value
 use Rattle.bson.specs.Level.{Opening, closed, opens, opening}
@@ -46,7 +46,7 @@ module _ (P : Value → Type 0) (leafy : (x : Leaf) → P (leaf x)) (v : Value) 
       (of-array : documentSize (drop (w .offset) s) ≡ gives (w .size) → P (array w))
       (of-scope : scopeValue (bytes s w) w ≡ gives v → P v) where
     content-case : (t : ElementType) → framed (sizeFor t) (drop (w .offset) s) ≡ gives (w .size) → content s w t ≡ gives v → P v
-    unfolding content framed
+    unfolding content framedUnder
     content-case Boolean f e = as-leaf-case _ (bool (bytes s w)) e
     content-case Int32 f e = as-leaf-case _ (inFront 4 i32 (bytes s w)) e
     content-case Double f e = as-leaf-case _ (inFront 8 le64 (bytes s w)) e
@@ -171,7 +171,7 @@ module _ (s : List ℕ) (c : Cursor) (e : Element) (y : Yields s c e) (v : Value
   -- it is what its part holds of the type that framed it
   pub value-content : valueOf s e ≡ gives v
       → (t : ElementType) × (framed (sizeFor t) (drop (e .value .offset) s) ≡ gives (e .value .size)) × (content s (e .value) t ≡ gives v)
-  unfolding valueOf valueIn valueSize
+  unfolding valueOf valueIn valueSizeUnder
   value-content x =
       let (u, x1) = unless-gives (leb (past e) (length s)) 9 _ (at-gives (e .place) _ x) in
       let (t, q, h) = then-gives (typeOf (e .tag)) _ x1 in

@@ -11,7 +11,7 @@ use Rattle.bson.specs.Answer.{Answer, gives}
 use Rattle.bson.specs.Bytes.{le32, le64, i32, i64, Part, bytes, trim}
 use Rattle.bson.specs.Utf8.{utf8}
 use Rattle.bson.specs.Tags
-use Rattle.bson.specs.Framing.{inFront, patternOptions, framed}
+use Rattle.bson.specs.Framing.{inFront, patternOptions, framed, framedUnder}
 use Rattle.bson.specs.Step.{Cursor, cursor, Element}
 use Rattle.bson.specs.Value
 use Rattle.laws.proofs.AnswerLaws.{gives-injective, unless-gives, then-gives}
@@ -75,7 +75,7 @@ module _ (s : List ℕ) (w : Part) (v : Value) (inside : w .offset + w .size ≤
       subst (BothEnd (length s)) (r .is) (omega arith, omega arith)
 
   content-parts : (t : ElementType) → framed (sizeFor t) (drop (w .offset) s) ≡ gives (w .size) → content s w t ≡ gives v → BothEnd (length s) v
-  unfolding content framed partsOf
+  unfolding content framedUnder partsOf
   content-parts Boolean f e = number (length s) v _ (bool (bytes s w)) e (λ x. (omega arith, omega arith))
   content-parts Int32 f e = number (length s) v _ (inFront 4 i32 (bytes s w)) e (λ x. (omega arith, omega arith))
   content-parts Double f e = number (length s) v _ (inFront 8 le64 (bytes s w)) e (λ x. (omega arith, omega arith))
@@ -109,5 +109,5 @@ parts-inside s c e y v x =
 -- the same of a reading at a place
 pub read-inside : (s : List ℕ) (place : ℕ) (v : Value) → readAt s place ≡ gives v → BothEnd (length s) v
 read-inside s place v x =
-    let (e, y, h) = read-says s place v x in
-    parts-inside s (cursor place false) e (step-yields s _ e y) v h
+    let (e, y, h) = read-says _ s place v x in
+    parts-inside s (cursor place false) e (step-yields _ s _ e y) v h

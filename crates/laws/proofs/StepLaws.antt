@@ -12,15 +12,15 @@ use borrow.Author.Tests.{leb-true, ltb-true, le-leb, lt-ltb, eq-eqb, ne-eqb, eqb
 use Rattle.bson.specs.Answer.{Answer, gives, refuses}
 use Rattle.bson.specs.Bytes.{le32, natural, bytes, same}
 use Rattle.bson.specs.Utf8.{utf8}
-use Rattle.bson.specs.Cstring.{isZero, firstZero, cstring, validCstr}
-use Rattle.bson.specs.Framing.{valueSize}
-use Rattle.bson.specs.Step.{terminator, admitted, Cursor, cursor, Element, past, element, Step, yield, end, step}
-use Rattle.bson.specs.Step.{Iteration, ended, broken, more, onward, iterateFor, iterate}
+use Rattle.bson.specs.Cstring.{Limit, isZero, firstZero, cstring, validCstr, cstringUnder, zeroText}
+use Rattle.bson.specs.Framing.{valueSize, valueSizeUnder}
+use Rattle.bson.specs.Step.{terminator, admitted, Cursor, cursor, Element, past, Step, yield, end, step, Iteration, ended, broken, more, onward}
+use Rattle.bson.specs.Step.{iterateFor, elementUnder, iterateUnder, stepUnder}
 use Rattle.laws.proofs.AnswerLaws.{never, gives-injective, unless-gives, then-gives, at-gives}
-use Rattle.laws.proofs.FramingLaws.{value-size-fits}
+use Rattle.laws.proofs.FramingLaws.{value-size-fits, value-size-under}
 use Rattle.laws.proofs.BytesLaws.{same-eq}
 use Rattle.laws.proofs.Common.{split, both-hold}
-use Rattle.laws.proofs.CstringLaws.{before-least, cstring-below, cstring-valid}
+use Rattle.laws.proofs.CstringLaws.{before-least, cstring-below, cstring-valid, cstring-under}
 
 pub admitted-says : (s : List ℕ) (n : ℕ) → admitted s ≡ gives n
     → (5 ≤ length s) × (n ≡ length s) × (getD s (terminator s) 0 ≡ 0) × (le32 s ≡ length s) × (length s < 2147483648)
@@ -34,11 +34,11 @@ admitted-says s n e =
     (leb-true 5 (length s) t, sym (gives-injective e3), eqb-true _ _ w, i, omega (arith, ltb-true (le32 s) 2147483648 k))
 
 -- a step that is not refused is one in an admitted document
-pub step-admits : (s : List ℕ) (c : Cursor) (x : Step) → step s c ≡ gives x → admitted s ≡ gives (length s)
-unfolding step
-step-admits s c x q = let (n, a, h) = then-gives (admitted s) _ q in a ∙ ap gives (admitted-says s n a .1)
+pub step-admits : (limit : Limit) (s : List ℕ) (c : Cursor) (x : Step) → stepUnder limit s c ≡ gives x → admitted s ≡ gives (length s)
+unfolding stepUnder
+step-admits limit s c x q = let (n, a, h) = then-gives (admitted s) _ q in a ∙ ap gives (admitted-says s n a .1)
 
--- an element that a step at a cursor yields: where it lies, and that its key and its value are framed there
+-- an element that a step at a cursor yields, under whatever limit: where it lies, and that its key and its value are framed there
 pub record Yields (s : List ℕ) (c : Cursor) (e : Element) : Type 0 where
   pub admits : admitted s ≡ gives (length s)
   pub going : c .ended ≡ false
@@ -64,21 +64,23 @@ framed-inside : (s : List ℕ) (p k tag n : ℕ) → cstring (drop (p + 1) s) �
 framed-inside s p k tag n key value =
     omega (arith, cstring-below _ k key, length-drop (p + 1) s, value-size-fits tag _ n value, length-drop (p + 1 + k + 1) s)
 
-pub element-inside : (s : List ℕ) (p : ℕ) (e : Element) → element s p ≡ gives e → past e ≤ length s
-unfolding element
-element-inside s p e x =
-    let (k, key, x1) = then-gives (cstring (drop (p + 1) s)) _ x in
-    let (n, value, x2) = then-gives (valueSize (getD s p 0) (drop (p + 1 + k + 1) s)) _ x1 in
-    rw (← gives-injective x2) (framed-inside s p k _ n key value)
+pub element-inside : (limit : Limit) (s : List ℕ) (p : ℕ) (e : Element) → elementUnder limit s p ≡ gives e → past e ≤ length s
+unfolding elementUnder
+element-inside limit s p e x =
+    let (k, key, x1) = then-gives (cstringUnder _ (drop (p + 1) s)) _ x in
+    let (n, value, x2) = then-gives (valueSizeUnder _ (getD s p 0) (drop (p + 1 + k + 1) s)) _ x1 in
+    rw (← gives-injective x2) (framed-inside s p k _ n (cstring-under _ _ k key) (value-size-under _ _ _ n value))
 
-module _ (s : List ℕ) (c : Cursor) (e : Element) where
+module _ (limit : Limit) (s : List ℕ) (c : Cursor) (e : Element) where
   element-yields : admitted s ≡ gives (length s) → c .ended ≡ false → 4 ≤ c .offset → c .offset < terminator s
-      → element s (c .offset) ≡ gives e → Yields s c e
-  unfolding element
+      → elementUnder limit s (c .offset) ≡ gives e → Yields s c e
+  unfolding elementUnder
   element-yields a g l h x =
       let p = c .offset in
-      let (k, key, x1) = then-gives (cstring (drop (p + 1) s)) _ x in
-      let (n, value, x2) = then-gives (valueSize (getD s p 0) (drop (p + 1 + k + 1) s)) _ x1 in
+      let (k, key′, x1) = then-gives (cstringUnder _ (drop (p + 1) s)) _ x in
+      let (n, value′, x2) = then-gives (valueSizeUnder _ (getD s p 0) (drop (p + 1 + k + 1) s)) _ x1 in
+      let key = cstring-under _ (drop (p + 1) s) k key′ in
+      let value = value-size-under _ (getD s p 0) (drop (p + 1 + k + 1) s) n value′ in
       rw (← gives-injective x2)
       (record {
         admits = a;
@@ -95,23 +97,40 @@ module _ (s : List ℕ) (c : Cursor) (e : Element) where
         value-is = value;
       })
 
-  pub step-yields : step s c ≡ gives (yield e) → Yields s c e
-  unfolding step
-  step-yields x =
+  step-tests : stepUnder limit s c ≡ gives (yield e)
+      → (c .ended ≡ false) × (4 ≤ c .offset) × (c .offset < terminator s) × (elementUnder limit s (c .offset) ≡ gives e)
+  unfolding stepUnder
+  step-tests x =
       let (n, a, x1) = then-gives (admitted s) _ x in
       let (g, x2) = not-end (c .ended) _ e x1 in
       let (t, x3) = unless-gives (leb 4 (c .offset) && leb (c .offset) (terminator s)) 4 _ (at-gives (c .offset) _ x2) in
       let (f, x4) = not-end (eqb (c .offset) (terminator s)) _ e x3 in
-      let (d, x5, y) = then-gives (element s (c .offset)) _ x4 in
+      let (d, x5, y) = then-gives (elementUnder _ s (c .offset)) _ x4 in
       let i : d ≡ e = cc (gives-injective y) in
       let (low, high) = both-hold (leb 4 (c .offset)) (leb (c .offset) (terminator s)) t in
-      let l : 4 ≤ c .offset = leb-true 4 (c .offset) low in
       let h : c .offset < terminator s = omega (arith, leb-true (c .offset) (terminator s) high, eqb-false (c .offset) (terminator s) f) in
-      element-yields (step-admits s c (yield e) x) g l h (x5 ∙ ap gives i)
+      (g, leb-true 4 (c .offset) low, h, x5 ∙ ap gives i)
 
-  -- and a step at its place yields it
+  pub step-yields : stepUnder limit s c ≡ gives (yield e) → Yields s c e
+  step-yields x =
+      let (g, l, h, y) = step-tests x in
+      element-yields (step-admits limit s c (yield e) x) g l h y
+
+  -- the limit let its key and its value through
+  pub step-frames : stepUnder limit s c ≡ gives (yield e)
+      → (cstringUnder limit (drop (e .key .offset) s) ≡ gives (e .key .size))
+      × (valueSizeUnder limit (e .tag) (drop (e .value .offset) s) ≡ gives (e .value .size))
+  unfolding elementUnder
+  step-frames x =
+      let p = c .offset in
+      let (k, key, x1) = then-gives (cstringUnder _ (drop (p + 1) s)) _ (step-tests x .3) in
+      let (n, value, x2) = then-gives (valueSizeUnder _ (getD s p 0) (drop (p + 1 + k + 1) s)) _ x1 in
+      rw (← gives-injective x2) (key, value)
+
+-- and a step at its place yields it
+module _ (s : List ℕ) (c : Cursor) (e : Element) where
   pub yields-step : Yields s c e → step s (cursor (e .place) false) ≡ gives (yield e)
-  unfolding step element
+  unfolding stepUnder elementUnder
   yields-step y =
       let low = le-leb 4 (c .offset) (y .low) in
       let high = le-leb (c .offset) (terminator s) (omega arith) in
@@ -135,7 +154,7 @@ other-key-unmatched s c e y key h =
 -- an admitted document ends in a zero, so a key before the terminator is refused by 6 alone
 pub key-refused : (s : List ℕ) (m offset n p : ℕ) → admitted s ≡ gives m → offset < terminator s
     → cstring (drop (offset + 1) s) ≡ refuses n p → n ≡ 6
-unfolding cstring
+unfolding zeroText cstringUnder
 key-refused s m offset n p a h e =
     let v = drop (offset + 1) s in
     let i = terminator s - (offset + 1) in
@@ -153,20 +172,21 @@ onward-same (gives end) f g h = refl
 onward-same (refuses n p) f g h = refl
 
 -- as many steps as bytes are left, and one, are enough, so more change nothing
-enough : (s : List ℕ) (n m offset : ℕ) → offset ≤ length s → length s < n + offset → length s < m + offset
-    → iterateFor n s offset ≡ iterateFor m s offset
+enough : (limit : Limit) (s : List ℕ) (n m offset : ℕ) → offset ≤ length s → length s < n + offset → length s < m + offset
+    → iterateFor limit n s offset ≡ iterateFor limit m s offset
 unfolding iterateFor
-enough s zero m offset i h k = absurd (omega arith)
-enough s (suc n) zero offset i h k = absurd (omega arith)
-enough s (suc n) (suc m) offset i h k =
-    onward-same (step s (cursor offset false)) (iterateFor n s) (iterateFor m s)
-    (λ e x. let y = step-yields s (cursor offset false) e x in enough s n m (past e) (y .inside) (omega arith) (omega arith))
+enough limit s zero m offset i h k = absurd (omega arith)
+enough limit s (suc n) zero offset i h k = absurd (omega arith)
+enough limit s (suc n) (suc m) offset i h k =
+    onward-same (stepUnder limit s (cursor offset false)) (iterateFor limit n s) (iterateFor limit m s)
+    (λ e x. let y = step-yields _ s (cursor offset false) e x in enough limit s n m (past e) (y .inside) (omega arith) (omega arith))
 
-pub iterate-eq : (s : List ℕ) (offset : ℕ) → iterate s offset ≡ onward (step s (cursor offset false)) (iterate s)
-unfolding iterate iterateFor
-iterate-eq s offset =
-    onward-same (step s (cursor offset false)) (iterateFor (length s) s) (iterate s)
-    (λ e x. let y = step-yields s (cursor offset false) e x in enough s (length s) (suc (length s)) (past e) (y .inside) (omega arith) (omega arith))
+pub iterate-eq : (limit : Limit) (s : List ℕ) (offset : ℕ)
+    → iterateUnder limit s offset ≡ onward (stepUnder limit s (cursor offset false)) (iterateUnder limit s)
+unfolding iterateUnder iterateFor
+iterate-eq limit s offset =
+    onward-same (stepUnder limit s (cursor offset false)) (iterateFor limit (length s) s) (iterateUnder limit s)
+    (λ e x. let y = step-yields _ s (cursor offset false) e x in enough limit s (length s) (suc (length s)) (past e) (y .inside) (omega arith) (omega arith))
 
 -- each element of the iteration is what the step behind the one before it yields
 abbrev pub Each : List ℕ → ℕ → Iteration → Type 0
@@ -174,17 +194,18 @@ Each s offset ended = record {}
 Each s offset (broken n p) = record {}
 Each s offset (more e rest) = Yields s (cursor offset false) e × Each s (past e) rest
 
-each-onward : (s : List ℕ) (offset : ℕ) (f : ℕ → Iteration) → ((next : ℕ) → Each s next (f next))
-    → (x : Answer Step) → step s (cursor offset false) ≡ x → Each s offset (onward x f)
-each-onward s offset f h (gives (yield e)) q = (step-yields s (cursor offset false) e q, h (past e))
-each-onward s offset f h (gives end) q = record {}
-each-onward s offset f h (refuses n p) q = record {}
+module _ (limit : Limit) where
+  each-onward : (s : List ℕ) (offset : ℕ) (f : ℕ → Iteration) → ((next : ℕ) → Each s next (f next))
+      → (x : Answer Step) → stepUnder limit s (cursor offset false) ≡ x → Each s offset (onward x f)
+  each-onward s offset f h (gives (yield e)) q = (step-yields _ s (cursor offset false) e q, h (past e))
+  each-onward s offset f h (gives end) q = record {}
+  each-onward s offset f h (refuses n p) q = record {}
 
-each-for : (n : ℕ) (s : List ℕ) (offset : ℕ) → Each s offset (iterateFor n s offset)
-unfolding iterateFor
-each-for zero s offset = record {}
-each-for (suc n) s offset = each-onward s offset (iterateFor n s) (each-for n s) (step s (cursor offset false)) refl
+  each-for : (n : ℕ) (s : List ℕ) (offset : ℕ) → Each s offset (iterateFor limit n s offset)
+  unfolding iterateFor
+  each-for zero s offset = record {}
+  each-for (suc n) s offset = each-onward s offset (iterateFor limit n s) (each-for n s) (stepUnder limit s (cursor offset false)) refl
 
-pub iterate-each : (s : List ℕ) (offset : ℕ) → Each s offset (iterate s offset)
-unfolding iterate
-iterate-each s offset = each-for (suc (length s)) s offset
+  pub iterate-each : (s : List ℕ) (offset : ℕ) → Each s offset (iterateUnder limit s offset)
+  unfolding iterateUnder
+  iterate-each s offset = each-for (suc (length s)) s offset

@@ -8,6 +8,7 @@ use mathlib.Core.Logic.{_↔_}
 use native.Mathlib.Omega.{arith}
 use Rattle.bson.specs.Answer.{Answer, gives, refuses}
 use Rattle.bson.specs.Bytes.{AreBytes}
+use Rattle.bson.specs.Cstring.{unlimited}
 use Rattle.bson.specs.Check.{check}
 use Rattle.bson.specs.Grammar.{Elements}
 use Rattle.theorems.specs.OneMeaning.{Frame}
@@ -26,6 +27,6 @@ accepts (refuses number place) h n = ((λ x. absurd (omega (arith, x .0))), λ e
 pub check-frame : (s : List ℕ) → AreBytes s → (v : VerdictNumbers) → v ≡ verdict (check false s) → (n : ℕ)
     → Accepts v n ↔ ((t : Elements) × Frame s n t)
 check-frame s are v e n =
-    let (says, gave) = accepts (check false s) (no-zero refl (check-in false s)) n in
+    let (says, gave) = accepts (check false s) (no-zero refl (check-in unlimited false s)) n in
     let (framed, passed) = one-meaning .plain s n are in
     rw e ((λ x. framed (says x)), λ x. gave (passed x))

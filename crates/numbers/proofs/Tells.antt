@@ -1,5 +1,5 @@
 -- The numbers that C is handed tell the answer: it is had again from them, and a lookup's from them and the document (document 01, "Numbers
--- returned" and module 8). Assumes nothing.
+-- returned" and module 8), whatever the limits. Assumes nothing.
 use Prim.Native.Nat.{ℕ, _<_}
 use mathlib.Core.Path.{_≡_, refl, sym, ap, _∙_}
 use mathlib.Core.List.{List}
@@ -10,14 +10,18 @@ use lib.Dec.{eqb}
 use borrow.Author.Tests.{ne-eqb}
 use Rattle.bson.specs.Answer.{Answer, gives, refuses, then}
 use Rattle.bson.specs.Bytes.{Part, part}
-use Rattle.bson.specs.Check.{check}
+use Rattle.bson.specs.Cstring.{Limit, unlimited}
+use Rattle.bson.specs.Check.{checkUnder}
 use Rattle.bson.specs.Join.{Outcome, wrote, refused, join}
-use Rattle.bson.specs.Lookup.{Found, get, getWith, isEmpty}
-use Rattle.bson.specs.Step.{Cursor, cursor, Step, yield, end, step, after}
+use Rattle.bson.specs.Lookup.{Found, getUnder, getWithUnder, isEmpty}
+use Rattle.bson.specs.Step.{Cursor, cursor, Step, yield, end, stepUnder, step, after}
 use Rattle.bson.specs.Value.{readAt}
 use Rattle.laws.proofs.AnswerLaws.{never, gives-injective}
-use Rattle.laws.proofs.LookupLaws.{get-read, get-with-says}
-use Rattle.theorems.proofs.Refusals.{NoZero, one-above, no-zero, damage, JoinsIn, step-in, get-in, get-with-in, empty-in, check-in, join-in}
+use Rattle.laws.proofs.LookupLaws.{get-finds, get-with-says}
+use Rattle.laws.proofs.ReadLaws.{read-step}
+use Rattle.laws.proofs.StepLaws.{step-yields, yields-step}
+use Rattle.theorems.proofs.Refusals.{NoZero, one-above, no-zero, no-zero-under, steps, reads, typedReads, damage, checks, JoinsIn}
+use Rattle.theorems.proofs.Refusals.{step-in, get-in, get-with-in, empty-in, check-in, join-in}
 use Rattle.numbers.specs.Numbers.{verdict, emptiness, found, joined, stepped}
 use Rattle.numbers.specs.declared.VerdictNumbers.{VerdictNumbers}
 use Rattle.numbers.specs.declared.FoundNumbers.{FoundNumbers}
@@ -47,12 +51,13 @@ verdict-back (refuses number place) h = answer-refused number place _ h
 pub verdict-tells : (a b : Answer ℕ) → NoZero a → NoZero b → verdict a ≡ verdict b → a ≡ b
 verdict-tells a b h k = tells verdictOf (verdict-back a h) (verdict-back b k)
 
-pub check-tells : (strict strict′ : Bool) (s t : List ℕ) → verdict (check strict s) ≡ verdict (check strict′ t) → check strict s ≡ check strict′ t
-check-tells strict strict′ s t = verdict-tells _ _ (check-no-zero strict s) (check-no-zero strict′ t)
+pub check-tells : (limit limit′ : Limit) (strict strict′ : Bool) (s t : List ℕ)
+    → verdict (checkUnder limit strict s) ≡ verdict (checkUnder limit′ strict′ t) → checkUnder limit strict s ≡ checkUnder limit′ strict′ t
+check-tells limit limit′ strict strict′ s t = verdict-tells _ _ (check-no-zero limit strict s) (check-no-zero limit′ strict′ t)
   where
-    check-no-zero : (b : Bool) (v : List ℕ) → NoZero (check b v)
-    check-no-zero false v = no-zero refl (check-in false v)
-    check-no-zero true v = no-zero refl (check-in true v)
+    check-no-zero : (l : Limit) (b : Bool) (v : List ℕ) → NoZero (checkUnder l b v)
+    check-no-zero l false v = no-zero-under (λ k. checks k false) l refl (λ m. refl) (check-in l false v)
+    check-no-zero l true v = no-zero-under (λ k. checks k true) l refl (λ m. refl) (check-in l true v)
 
 -- whether a document is empty
 
@@ -77,7 +82,7 @@ outcomeOf v = cond (eqb (v .number) 0) (wrote (v .length)) (refused (v .number) 
 
 joined-back : (a : Outcome) → JoinsIn a → outcomeOf (joined a) ≡ a
 joined-back (wrote n) h = refl
-joined-back (refused number place which) (inl h) = let k = one-above damage number refl (h .0) in rw (ne-eqb number 0 (λ e. omega arith))
+joined-back (refused number place which) (inl h) = let k = one-above (damage unlimited) number refl (h .0) in rw (ne-eqb number 0 (λ e. omega arith))
 joined-back (refused number place which) (inr h) = rw (ne-eqb number 0 (λ e. omega arith))
 
 pub joined-tells : (a b : Outcome) → JoinsIn a → JoinsIn b → joined a ≡ joined b → a ≡ b
@@ -115,9 +120,13 @@ pub stepped-tells : (c d : Cursor) (x y : Answer Step) → NoZero x → NoZero y
     → (x ≡ y) × (after c x ≡ after d y)
 stepped-tells c d x y h k e = (tells stepOf (step-back c x h) (step-back d y k) e, tells cursorOf (cursor-back c x) (cursor-back d y) e)
 
-pub step-tells : (s t : List ℕ) (c d : Cursor) → stepped (step s c) (after c (step s c)) ≡ stepped (step t d) (after d (step t d))
-    → (step s c ≡ step t d) × (after c (step s c) ≡ after d (step t d))
-step-tells s t c d = stepped-tells c d _ _ (no-zero refl (step-in s c)) (no-zero refl (step-in t d))
+pub step-tells : (limit limit′ : Limit) (s t : List ℕ) (c d : Cursor)
+    → stepped (stepUnder limit s c) (after c (stepUnder limit s c)) ≡ stepped (stepUnder limit′ t d) (after d (stepUnder limit′ t d))
+    → (stepUnder limit s c ≡ stepUnder limit′ t d) × (after c (stepUnder limit s c) ≡ after d (stepUnder limit′ t d))
+step-tells limit limit′ s t c d = stepped-tells c d _ _ (step-no-zero limit s c) (step-no-zero limit′ t d)
+  where
+    step-no-zero : (l : Limit) (v : List ℕ) (k : Cursor) → NoZero (stepUnder l v k)
+    step-no-zero l v k = no-zero-under steps l refl (λ m. refl) (step-in l v k)
 
 -- a lookup: the numbers keep of an element its place, its tag and its value's framed bytes
 
@@ -157,13 +166,27 @@ module _ (s : List ℕ) where
   lookup-tells (refuses n p) (gives g) h k r q e = never (found-tells (refuses n p) (gives g) h k e)
   lookup-tells (refuses n p) (refuses m o) h k r q e = cc (found-tells (refuses n p) (refuses m o) h k e)
 
-  pub get-tells : (key key′ : List ℕ) → found (get s key) ≡ found (get s key′) → get s key ≡ get s key′
-  get-tells key key′ =
-      lookup-tells _ _ (no-zero refl (get-in s key)) (no-zero refl (get-in s key′)) (get-read s key) (get-read s key′)
+  had-there : (limit : Limit) (key : List ℕ) (f : Found) → getUnder limit s key ≡ gives f → HadThere f
+  had-there limit key f x =
+      let r = get-finds limit s key f x in
+      let y = yields-step s _ (f .element) (step-yields limit s _ (f .element) (r .steps)) in
+      (y, read-step unlimited s (f .element .place) (f .element) y ∙ r .reads)
 
-  pub get-with-tells : (key key′ : List ℕ) (tag tag′ : ℕ) → found (getWith s key tag) ≡ found (getWith s key′ tag′)
-      → getWith s key tag ≡ getWith s key′ tag′
-  get-with-tells key key′ tag tag′ =
-      lookup-tells _ _ (no-zero refl (get-with-in s key tag)) (no-zero refl (get-with-in s key′ tag′))
-      (λ f x. get-read s key f (get-with-says s key tag f x .0))
-      (λ f x. get-read s key′ f (get-with-says s key′ tag′ f x .0))
+  pub get-tells : (limit limit′ : Limit) (key key′ : List ℕ) → found (getUnder limit s key) ≡ found (getUnder limit′ s key′)
+      → getUnder limit s key ≡ getUnder limit′ s key′
+  get-tells limit limit′ key key′ =
+      lookup-tells _ _ (get-no-zero limit key) (get-no-zero limit′ key′) (had-there limit key) (had-there limit′ key′)
+    where
+      get-no-zero : (l : Limit) (k : List ℕ) → NoZero (getUnder l s k)
+      get-no-zero l k = no-zero-under reads l refl (λ m. refl) (get-in l s k)
+
+  pub get-with-tells : (limit limit′ : Limit) (key key′ : List ℕ) (tag tag′ : ℕ)
+      → found (getWithUnder limit s key tag) ≡ found (getWithUnder limit′ s key′ tag′) → getWithUnder limit s key tag ≡ getWithUnder limit′ s key′ tag′
+  get-with-tells limit limit′ key key′ tag tag′ =
+      lookup-tells _ _ (get-no-zero limit key tag) (get-no-zero limit′ key′ tag′) (with-there limit key tag) (with-there limit′ key′ tag′)
+    where
+      get-no-zero : (l : Limit) (k : List ℕ) (n : ℕ) → NoZero (getWithUnder l s k n)
+      get-no-zero l k n = no-zero-under typedReads l refl (λ m. refl) (get-with-in l s k n)
+
+      with-there : (l : Limit) (k : List ℕ) (n : ℕ) (f : Found) → getWithUnder l s k n ≡ gives f → HadThere f
+      with-there l k n f x = had-there l k f (get-with-says l s k n f x .0)

@@ -10,6 +10,7 @@ use lib.IntN.{ℤ}
 use lib.ListN.{length, getD, drop}
 use Rattle.bson.specs.Answer.{Answer, gives, refuses}
 use Rattle.bson.specs.Bytes.{AreBytes, le32, le64, i32, i64, signed, Part, part, bytes, trim}
+use Rattle.bson.specs.Cstring.{Limit}
 use Rattle.bson.specs.Framing.{inFront, patternOptions}
 use Rattle.bson.specs.Grammar.{unsigned, Ranged}
 use Rattle.bson.specs.Step.{past}
@@ -22,7 +23,7 @@ use Rattle.laws.proofs.GrammarLaws.{signed-unsigned}
 use Rattle.laws.proofs.GrammarBack.{bytes-are, le32-below, i32-ranged, i64-ranged}
 use Rattle.laws.proofs.ReadLaws.{read-says}
 use Rattle.laws.proofs.OpenLaws.{scope-says}
-use Rattle.theorems.proofs.Refusals.{NoZero, no-zero, read-in}
+use Rattle.theorems.proofs.Refusals.{NoZero, no-zero-under, reads, read-in}
 use Rattle.numbers.specs.Numbers.{tagOf, bitsOf, valueRead}
 use Rattle.numbers.specs.declared.ValueNumbers.{ValueNumbers}
 use Rattle.numbers.proofs.Tells.{tells, answerOf, answer-refused}
@@ -30,7 +31,7 @@ use Tags.{ElementType, Boolean, Int32, Double, Int64, DateTime, Timestamp, Objec
 use Tags.{String, JavaScriptCode, Symbol, DbPointer, EmbeddedDocument, Array, Binary, RegularExpression, JavaScriptCodeWithScope, typeOf}
 use Value.{Leaf, Value, leaf, document, array, codeWithScope, boolean, int32, int64, dateTime, double, timestamp, objectId, decimal128, string, code}
 use Value.{symbol, null, undefined, minKey, maxKey, dbPointer, binary, regex, asLeaf, bool, timestampOf, text, binaryValue, content}
-use Value.{valueIn, valueOf, readAt, partsOf}
+use Value.{valueIn, valueOf, readAtUnder, partsOf}
 
 -- the value of a tag, a number and two parts
 abbrev valueFrom : ℕ → ℕ → Part → Part → Value
@@ -126,10 +127,10 @@ module _ (s : List ℕ) (small : AreBytes s) where
     content-had p RegularExpression e = let (r, q, g) = then-gives (patternOptions (bytes s p)) _ e in had _ refl g
     content-had p JavaScriptCodeWithScope e = subst Had (scope-says (bytes s p) p v e .is) refl
 
-    read-had : (place : ℕ) → readAt s place ≡ gives v → Had v
+    read-had : (limit : Limit) (place : ℕ) → readAtUnder limit s place ≡ gives v → Had v
     unfolding valueOf valueIn
-    read-had place x =
-        let (e, y, x1) = read-says s place v x in
+    read-had limit place x =
+        let (e, y, x1) = read-says limit s place v x in
         let (u, x2) = unless-gives (leb (past e) (length s)) 9 _ (at-gives (e .place) _ x1) in
         let (t, r, x3) = then-gives (typeOf (e .tag)) _ x2 in
         content-had (e .value) t x3
@@ -141,9 +142,9 @@ read-back : (a : Answer Value) → NoZero a → ((v : Value) → a ≡ gives v �
 read-back (gives v) h k = ap gives (k v refl)
 read-back (refuses number place) h k = answer-refused number place _ h
 
-pub read-tells : (s t : List ℕ) → AreBytes s → AreBytes t → (place place′ : ℕ) → valueRead (readAt s place) ≡ valueRead (readAt t place′)
-    → readAt s place ≡ readAt t place′
-read-tells s t a b place place′ = tells readOf (back s a place) (back t b place′)
+pub read-tells : (limit limit′ : Limit) (s t : List ℕ) → AreBytes s → AreBytes t → (place place′ : ℕ)
+    → valueRead (readAtUnder limit s place) ≡ valueRead (readAtUnder limit′ t place′) → readAtUnder limit s place ≡ readAtUnder limit′ t place′
+read-tells limit limit′ s t a b place place′ = tells readOf (back limit s a place) (back limit′ t b place′)
   where
-    back : (w : List ℕ) → AreBytes w → (p : ℕ) → readOf (valueRead (readAt w p)) ≡ readAt w p
-    back w h p = read-back (readAt w p) (no-zero refl (read-in w p)) (λ v. read-had w h v p)
+    back : (l : Limit) (w : List ℕ) → AreBytes w → (p : ℕ) → readOf (valueRead (readAtUnder l w p)) ≡ readAtUnder l w p
+    back l w h p = read-back (readAtUnder l w p) (no-zero-under reads l refl (λ m. refl) (read-in l w p)) (λ v. read-had w h v l p)

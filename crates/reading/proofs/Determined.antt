@@ -17,14 +17,20 @@ use Rattle.reading.specs.declared.Reading.the-variants.{Is, Refused}
 use Rattle.reading.specs.declared.Parts.{Parts}
 use Rattle.reading.proofs.value_of.Reads as value-of-reads
 use Rattle.reading.proofs.value_of.Kinds as value-of-kinds
+use Rattle.reading.proofs.read_at_under.Reads as read-at-under-reads
+use Rattle.reading.proofs.read_at_under.Kinds as read-at-under-kinds
 use Rattle.reading.proofs.read_at.Reads as read-at-reads
 use Rattle.reading.proofs.read_at.Kinds as read-at-kinds
+use Rattle.reading.proofs.read_with_under.Reads as read-with-under-reads
+use Rattle.reading.proofs.read_with_under.Kinds as read-with-under-kinds
 use Rattle.reading.proofs.read_with.Reads as read-with-reads
 use Rattle.reading.proofs.read_with.Kinds as read-with-kinds
 use Rattle.reading.proofs.parts_of.Reads as parts-of-reads
 use Rattle.reading.proofs.parts_of.Kinds as parts-of-kinds
 use Rattle.reading.proofs.part_of.Reads as part-of-reads
 use Rattle.reading.proofs.part_of.Kinds as part-of-kinds
+use Rattle.reading.proofs.part_at_under.Reads as part-at-under-reads
+use Rattle.reading.proofs.part_at_under.Kinds as part-at-under-kinds
 use Rattle.reading.proofs.part_at.Reads as part-at-reads
 use Rattle.reading.proofs.part_at.Kinds as part-at-kinds
 
@@ -41,8 +47,14 @@ said-injective = injective-by said unsaid again
 pub value-of-determined : (κs : Lfts 1) (a : Dens κs value-of-kinds.ps) → Determined (value-of-reads.Post κs a)
 value-of-determined κs a r₁ r₂ s₁ s₂ p q = said-injective r₁ r₂ (p ∙ sym q)
 
+pub read-at-under-determined : (κs : Lfts 1) (a : Dens κs read-at-under-kinds.ps) → Determined (read-at-under-reads.Post κs a)
+read-at-under-determined κs a r₁ r₂ s₁ s₂ p q = said-injective r₁ r₂ (p ∙ sym q)
+
 pub read-at-determined : (κs : Lfts 1) (a : Dens κs read-at-kinds.ps) → Determined (read-at-reads.Post κs a)
 read-at-determined κs a r₁ r₂ s₁ s₂ p q = said-injective r₁ r₂ (p ∙ sym q)
+
+pub read-with-under-determined : (κs : Lfts 1) (a : Dens κs read-with-under-kinds.ps) → Determined (read-with-under-reads.Post κs a)
+read-with-under-determined κs a r₁ r₂ s₁ s₂ p q = said-injective r₁ r₂ (p ∙ sym q)
 
 pub read-with-determined : (κs : Lfts 1) (a : Dens κs read-with-kinds.ps) → Determined (read-with-reads.Post κs a)
 read-with-determined κs a r₁ r₂ s₁ s₂ p q = said-injective r₁ r₂ (p ∙ sym q)
@@ -55,6 +67,9 @@ parts-of-determined κs a r₁ r₂ s₁ s₂ p q = injective-by saidParts unsai
 
 pub part-of-determined : (κs : Lfts 0) (a : Dens κs part-of-kinds.ps) → Determined (part-of-reads.Post κs a)
 part-of-determined κs a r₁ r₂ s₁ s₂ p q = injective-by part.said unsaidPart (λ r. refl) r₁ r₂ (p ∙ sym q)
+
+pub part-at-under-determined : (κs : Lfts 1) (a : Dens κs part-at-under-kinds.ps) → DeterminedPart now (part-at-under-reads.Post κs a)
+part-at-under-determined κs a r₁ r₂ s₁ s₂ p q = p ∙ sym q
 
 pub part-at-determined : (κs : Lfts 1) (a : Dens κs part-at-kinds.ps) → DeterminedPart now (part-at-reads.Post κs a)
 part-at-determined κs a r₁ r₂ s₁ s₂ p q = p ∙ sym q

@@ -1,7 +1,8 @@
 // Reading a value at a place, and the parts of a value (document 01, "Values"; `RawElement::value` in src/raw/iter.rs of the Rust).
 ghost use mathlib.Core.Path.{_≡_};
-ghost use Rattle.bson.specs.Value.{valueOf, elementAt, readAt, readWith, ofTag, partsOf, partOf, partAt};
+ghost use Rattle.bson.specs.Value.{valueOf, elementAtUnder, readAtUnder, readWithUnder, readAt, readWith, ofTag, partsOf, partOf, partAtUnder, partAt};
 ghost use Rattle.bson.specs.Answer.{then};
+ghost use Rattle.cstr.specs.Said.{limitOf};
 ghost use Rattle.iter.specs.Said.{saidElement};
 ghost use Rattle.part.specs.Said as onPaper;
 ghost use Rattle.value.specs.Said.{saidValue};
@@ -64,14 +65,14 @@ enum Located {
 }
 
 // Steps to a place: the step's refusals, and 16 at the terminator.
-fn locate(s: &[u8], place: usize) -> Located
-    ensures { λ r. ⌜ saidLocated r ≡ elementAt (now (s .entry)) place ⌝ }
+fn locate(s: &[u8], place: usize, limit: usize) -> Located
+    ensures { λ r. ⌜ saidLocated r ≡ elementAtUnder (limitOf limit) (now (s .entry)) place ⌝ }
 {
     let cursor = Cursor {
         offset: place,
         ended: false,
     };
-    match iter::next(s, cursor) {
+    match iter::next_under(s, cursor, limit) {
         Step::Refused {
             number,
             place,
@@ -83,23 +84,37 @@ fn locate(s: &[u8], place: usize) -> Located
 }
 
 // Steps to a place and reads there: the step's refusals, 16 at the terminator, then the value's.
-pub fn read_at(s: &[u8], place: usize) -> Reading
-    ensures { λ r. ⌜ said r ≡ readAt (now (s .entry)) place ⌝ }
+pub fn read_at_under(s: &[u8], place: usize, limit: usize) -> Reading
+    ensures { λ r. ⌜ said r ≡ readAtUnder (limitOf limit) (now (s .entry)) place ⌝ }
 {
-    match locate(s, place) {
+    match locate(s, place, limit) {
         Located::Refused { number, place } => Reading::Refused { number, place },
         Located::Is(element) => value_of(s, element),
     }
 }
 
-// The same, of a value that must have this tag: 17 behind its own refusals.
-pub fn read_with(s: &[u8], place: usize, tag: u8) -> Reading
-    ensures { λ r. ⌜ said r ≡ readWith (now (s .entry)) place tag ⌝ }
+// The same without a limit.
+pub fn read_at(s: &[u8], place: usize) -> Reading
+    ensures { λ r. ⌜ said r ≡ readAt (now (s .entry)) place ⌝ }
 {
-    match locate(s, place) {
+    read_at_under(s, place, cstr::NO_LIMIT)
+}
+
+// Steps to a place and reads there a value that must have this tag: 17 behind its own refusals.
+pub fn read_with_under(s: &[u8], place: usize, tag: u8, limit: usize) -> Reading
+    ensures { λ r. ⌜ said r ≡ readWithUnder (limitOf limit) (now (s .entry)) place tag ⌝ }
+{
+    match locate(s, place, limit) {
         Located::Refused { number, place } => Reading::Refused { number, place },
         Located::Is(element) => value_with(s, element, tag),
     }
+}
+
+// The same without a limit.
+pub fn read_with(s: &[u8], place: usize, tag: u8) -> Reading
+    ensures { λ r. ⌜ said r ≡ readWith (now (s .entry)) place tag ⌝ }
+{
+    read_with_under(s, place, tag, cstr::NO_LIMIT)
 }
 
 pub fn parts_of(value: Value) -> Parts
@@ -144,15 +159,22 @@ pub fn part_of(value: Value, which: Which) -> Part
     }
 }
 
-// A part of the value of this tag at a place, as a part of the slice; empty where `read_with`, its twin, refuses.
-pub fn part_at<'a>(s: &'a [u8], place: usize, tag: u8, which: Which) -> &'a [u8]
-    ensures { λ r. ⌜ now r ≡ partAt (now (s .entry)) place tag (saidWhich which) ⌝ }
+// A part of the value of this tag at a place, as a part of the slice; empty where `read_with_under`, its twin, refuses.
+pub fn part_at_under<'a>(s: &'a [u8], place: usize, tag: u8, which: Which, limit: usize) -> &'a [u8]
+    ensures { λ r. ⌜ now r ≡ partAtUnder (limitOf limit) (now (s .entry)) place tag (saidWhich which) ⌝ }
 {
-    match read_with(s, place, tag) {
+    match read_with_under(s, place, tag, limit) {
         Reading::Refused {
             number: _,
             place: _,
         } => &s[..0],
         Reading::Is(value) => part::bytes_of(s, part_of(value, which)),
     }
+}
+
+// The same without a limit.
+pub fn part_at<'a>(s: &'a [u8], place: usize, tag: u8, which: Which) -> &'a [u8]
+    ensures { λ r. ⌜ now r ≡ partAt (now (s .entry)) place tag (saidWhich which) ⌝ }
+{
+    part_at_under(s, place, tag, which, cstr::NO_LIMIT)
 }

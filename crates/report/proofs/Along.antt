@@ -21,7 +21,7 @@ lines-from o s offset = putTexts o (elementLines (iterate s offset))
 
 module _ (o : Output) (s : List ℕ) (offset : ℕ) where
   stepped : lines-from o s offset ≡ putTexts o (elementLines (onward (step s (cursor offset false)) (iterate s)))
-  stepped = ap (λ (i : Iteration). putTexts o (elementLines i)) (iterate-eq s offset)
+  stepped = ap (λ (i : Iteration). putTexts o (elementLines i)) (iterate-eq _ s offset)
 
   pub lines-end : step s (cursor offset false) ≡ gives end → lines-from o s offset ≡ o
   lines-end e = stepped ∙ rw e

@@ -60,7 +60,7 @@ module _ (s : List ℕ) (short : length s ≤ 65535 → length (verdictLine (che
   report-short =
       split (leb (length s) 65535)
       (λ t. let l = leb-true (length s) 65535 t in
-      let n = lines-short s 4 (iterate s 4) (iterate-each s 4) l in
+      let n = lines-short s 4 (iterate s 4) (iterate-each _ s 4) l in
       rw t (omega (arith, length-behind (elementLines (iterate s 4)) (verdictLine (check false s)), short l)))
       (λ t. rw t (omega (arith, length-append (verdictLine (refuses 20 0)) [], refused-short 20 0 (omega arith) (omega arith))))
 

@@ -8,7 +8,7 @@ use Rattle.bson.specs.Answer.{Answer, gives, refuses}
 use Rattle.bson.specs.Bytes.{AreBytes, bytes, same}
 use Rattle.bson.specs.Step.{terminator, Element, past, iterate}
 use Rattle.bson.specs.Value.{Value}
-use Rattle.bson.specs.Lookup.{Found, found, first, get, getBytes}
+use Rattle.bson.specs.Lookup.{Found, found, first, get, getBytesUnder, getUnder}
 use Rattle.bson.specs.Grammar.{nestBytes, Elements}
 use Rattle.bson.specs.Meaning.{Holding, holding, Yields, MeansFrom, ends, yields, opens, Means}
 use Rattle.laws.proofs.Common.{split}
@@ -17,6 +17,7 @@ use Rattle.laws.proofs.StepLaws.{iterate-eq}
 use Rattle.laws.proofs.GrammarBack.{bytes-are}
 use Rattle.theorems.specs.Children.{Child, item, inner, childOf, childTag, childBytes, Is, LooksUp}
 use Rattle.theorems.proofs.Meant.{yields-codes, meant-bytes}
+use Rattle.bson.specs.Cstring.{unlimited}
 
 -- an answer is a child, or that there is none
 record Shows (d : List ℕ) (c : Child) (x : Answer Found) : Type 0 where
@@ -38,8 +39,8 @@ module _ (d : List ℕ) (key : List ℕ) where
       → Answered d (cond (same key k) (some c) o) (first d key (iterate d offset))
   unfolding found
   in-front {offset} {k} {e = e} y c t b v o rest =
-      let reads = sym (read-step d offset e (y .steps)) ∙ y .reads in
-      rw (iterate-eq d offset, y .steps, y .keyed)
+      let reads = sym (read-step unlimited d offset e (y .steps)) ∙ y .reads in
+      rw (iterate-eq unlimited d offset, y .steps, y .keyed)
       (split (same key k)
       (λ q. rw q (record {
         shown = record { element = e; value = y .value };
@@ -51,7 +52,7 @@ module _ (d : List ℕ) (key : List ℕ) where
       (λ q. rw q rest))
 
   looks-from : (offset : ℕ) (t : Elements) → AreBytes d → MeansFrom d offset t → Answered d (childOf key t) (first d key (iterate d offset))
-  looks-from offset t a (ends q x) = rw (iterate-eq d offset, x)
+  looks-from offset t a (ends q x) = rw (iterate-eq unlimited d offset, x)
   looks-from offset t a (yields {item = i} {rest = rest} e y m) =
       in-front y (item i) refl (yields-codes a y .value) (λ v q. q) _ (looks-from (past e) rest a m)
   looks-from offset t a (opens {n = n} {inner = u} {rest = rest} p e y i m) =
@@ -59,11 +60,11 @@ module _ (d : List ℕ) (key : List ℕ) where
       in-front y (inner n u) refl (yields-codes a y .value ∙ ap (nestBytes n) (sym b)) (λ v q. (p, q, i)) _ (looks-from (past e) rest a m)
 
   looks-by : (o : Option Child) → Answered d o (get d key) → LooksUp d key o
-  unfolding getBytes
+  unfolding getBytesUnder
   looks-by (some c) s =
       record { found = s .shown; answers = s .answers; tagged = s .tagged; framed = rw (s .answers) (s .framed); value = s .value }
   looks-by none s = s
 
 pub lookup-child : (d : List ℕ) (t : Elements) → AreBytes d → Means d t → (key : List ℕ) → LooksUp d key (childOf key t)
-unfolding get
+unfolding getUnder
 lookup-child d t a m key = looks-by d key (childOf key t) (looks-from d key 4 t a m)

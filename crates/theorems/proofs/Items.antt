@@ -14,7 +14,7 @@ use Rattle.bson.specs.Bytes.{le32, le64, i32, i64, Part, part, bytes, trim}
 use Rattle.bson.specs.Utf8.{utf8}
 use Rattle.bson.specs.Cstring.{validCstr}
 use Rattle.bson.specs.Tags
-use Rattle.bson.specs.Framing.{fits, inFront, framed, valueSize}
+use Rattle.bson.specs.Framing.{fits, inFront, framed, valueSize, framedUnder, valueSizeUnder}
 use Rattle.bson.specs.Value
 use Rattle.bson.specs.Grammar.{bytes32, stringBytes, binaryBytes, Item, row, Fitting}
 use Rattle.bson.specs.Meaning.{held, Holding, single, holding}
@@ -41,7 +41,7 @@ module _ (s : List ℕ) (offset : ℕ) (a back : List ℕ) (here : drop offset s
 -- a tag's type says how its values are framed and read
 
 pub sized-by : (tag : ℕ) (t : ElementType) (v : List ℕ) → typeOf tag ≡ gives t → valueSize tag v ≡ framed (sizeFor t) v
-unfolding valueSize
+unfolding valueSizeUnder
 sized-by tag t v e = then-from _ _ (type-sized tag t e)
 
 value-by : (s : List ℕ) (tag : ℕ) (t : ElementType) (p : Part) → typeOf tag ≡ gives t → p .offset + p .size ≤ length s
@@ -97,7 +97,7 @@ of-size : (tag : ℕ) (type : ElementType) (n : ℕ) (value : List ℕ) (item : 
     → sizeFor type ≡ fixed n → length value ≡ n
     → ((s : List ℕ) (p : Part) → bytes s p ≡ value → (x : Leaf) × (content s p type ≡ gives (leaf x)) × (held s x ≡ item))
     → Readable tag value item
-unfolding framed
+unfolding framedUnder
 of-size tag type n value item tagged z e c s offset back small here inside =
     let l = length-append value back in
     let (x, r, h) = c s _ (here-bytes s offset value back here inside) in
@@ -112,7 +112,7 @@ of-text : (tag : ℕ) (type : ElementType) (f : Part → Leaf) (g : List ℕ →
     → sizeFor type ≡ asString
     → ((s : List ℕ) (p : Part) → (content s p type ≡ asLeaf f (text s (trim 4 1 p))) × (held s (f p) ≡ g (bytes s p)))
     → utf8 t ≡ true → Readable tag (stringBytes t) (g t)
-unfolding framed
+unfolding framedUnder
 of-text tag type f g t tagged z c u s offset back small here inside =
     let l = length-string t in
     let m = length (stringBytes t) - (4 + 1) in
@@ -121,7 +121,7 @@ of-text tag type f g t tagged z c u s offset back small here inside =
     (f (part (offset + 4) m)) (c s _ .0 ∙ rw (text-reads s offset t back here m e u)) (c s _ .1 ∙ ap g (text-here s offset t back here m e))
 
 of-pointer : (t id : List ℕ) → length id ≡ 12 → utf8 t ≡ true → Readable 0x0C (stringBytes t ++ id) (dbPointer t id)
-unfolding framed content rowOf tags
+unfolding framedUnder content rowOf tags
 of-pointer t id i u s offset back small here inside =
     let n = length (stringBytes t ++ id) in
     let l : n ≡ length t + 17 = simp (length-append, length-string) (omega arith) in
@@ -146,7 +146,7 @@ data-here s offset n subtype w back here =
     sym (drop-drop 5 offset s) ∙ ap (drop 5) (here ∙ append-assoc (bytes32 n) (subtype ∷ w) back) ∙ subtype-of n subtype (w ++ back) .1
 
 of-data : (subtype : ℕ) (d : List ℕ) → eqb subtype 2 ≡ false → Readable 0x05 (bytes32 (length d) ++ (subtype ∷ d)) (binary subtype d)
-unfolding framed content binaryValue rowOf tags
+unfolding framedUnder content binaryValue rowOf tags
 of-data subtype d other s offset back small here inside =
     let n = length d in
     let value = bytes32 n ++ (subtype ∷ d) in
@@ -157,7 +157,7 @@ of-data subtype d other s offset back small here inside =
     (ap (binary subtype) (bytes-here s (offset + 5) d back (data-here s offset n subtype d back here) _ (omega arith)))
 
 of-old-data : (d : List ℕ) → Readable 0x05 (bytes32 (length d + 4) ++ (2 ∷ (bytes32 (length d) ++ d))) (binary 2 d)
-unfolding framed content binaryValue rowOf tags
+unfolding framedUnder content binaryValue rowOf tags
 of-old-data d s offset back small here inside =
     let n = length d in
     let w = bytes32 n ++ d in
@@ -196,7 +196,7 @@ regex-here s offset p o back here =
     (bytes-here s offset p _ e (length p) refl, bytes-here s next o (0 ∷ back) (behind ∙ append-assoc o (0 ∷ []) back) (length o) refl)
 
 of-regex : (p o : List ℕ) → validCstr p ≡ true → validCstr o ≡ true → Readable 0x0B (p ++ (0 ∷ (o ++ (0 ∷ [])))) (regex p o)
-unfolding framed content rowOf tags
+unfolding framedUnder content rowOf tags
 of-regex p o h k s offset back small here inside =
     let value = p ++ (0 ∷ (o ++ (0 ∷ []))) in
     let (i, j) = regex-here s offset p o back here in

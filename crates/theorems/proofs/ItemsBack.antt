@@ -14,6 +14,7 @@ use Rattle.bson.specs.Bytes.{AreBytes, le32, le64, i32, i64, Part, part, bytes,
 use Rattle.bson.specs.Utf8.{utf8}
 use Rattle.bson.specs.Tags
 use Rattle.bson.specs.Framing.{fits, inFront, stringSize, pointerSize, binarySize, patternOptions, regexSize, scopeSize, framed, valueSize}
+use Rattle.bson.specs.Framing.{framedUnder}
 use Rattle.bson.specs.Step.{cursor, Element, yield, step}
 use Rattle.bson.specs.Value
 use Rattle.bson.specs.Grammar.{stringBytes, Item, coded, row, Fitting, Nest, nestTag, nestGood, nestBytes}
@@ -33,6 +34,7 @@ use Tags.{ElementType, Boolean, Int32, Double, Int64, DateTime, Timestamp, Objec
 use Tags.{String, JavaScriptCode, Symbol, DbPointer, EmbeddedDocument, Array, Binary, RegularExpression, JavaScriptCodeWithScope, fixed, typeOf}
 use Value.{boolean, int32, int64, dateTime, double, timestamp, string, code, symbol, null, undefined, minKey, maxKey, dbPointer, binary, regex}
 use Value.{Leaf, Value, leaf, asLeaf, bool, timestampOf, text, binaryValue, scopeValue, content, valueIn, valueOf}
+use Rattle.bson.specs.Cstring.{unlimited}
 
 -- the bytes of a part are a value's, under its tag, and its texts and numbers are in order
 pub record Codes (s : List ℕ) (tag : ℕ) (p : Part) (item : Item) : Type 0 where
@@ -81,7 +83,7 @@ module _ (s : List ℕ) (b : AreBytes s) (p : Part) (inside : p .offset + p .siz
   -- fixed sizes
 
   size-is : (n : ℕ) → framed (fixed n) (drop (p .offset) s) ≡ gives (p .size) → length (bytes s p) ≡ n
-  unfolding framed
+  unfolding framedUnder
   size-is n f = bytes-length s p inside ∙ fits-is n _ (p .size) f .0
 
   of-size : (item : Item) (n : ℕ) → framed (fixed n) (drop (p .offset) s) ≡ gives (p .size) → row item .good ≡ true → Fitting item
@@ -226,7 +228,7 @@ module _ (s : List ℕ) (b : AreBytes s) (p : Part) (inside : p .offset + p .siz
 
   content-codes : (t : ElementType) → framed (sizeFor t) (drop (p .offset) s) ≡ gives (p .size) → content s p t ≡ gives v
       → CodesOf s (tagFor t) p (holding s v)
-  unfolding content framed row
+  unfolding content framedUnder row
   content-codes Boolean f e = of-bool f e
   content-codes Int32 f e = of-number 4 i32 int32 f refl (λ w a. i32-ranged w _ (omega arith)) i32-back e
   content-codes Double f e = of-number 8 le64 double f refl le64-below bytes64-back e
@@ -263,5 +265,5 @@ pub element-codes : (s : List ℕ) → AreBytes s → (offset : ℕ) (e : Elemen
     → valueOf s e ≡ gives v → CodesOf s (e .tag) (e .value) (holding s v)
 unfolding valueOf
 element-codes s a offset e v y x =
-    let z = step-yields s (cursor offset false) e y in
+    let z = step-yields unlimited s (cursor offset false) e y in
     value-codes s a (e .tag) (e .value) v (z .inside) (z .value-is) (at-gives (e .place) _ x)

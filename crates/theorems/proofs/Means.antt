@@ -16,6 +16,7 @@ use Rattle.laws.proofs.GrammarLaws.{length-bytes32, length-document, document-a
 use Rattle.theorems.proofs.Items.{item-reads}
 use Rattle.theorems.proofs.Nests.{nest-longer, nest-reads}
 use Rattle.theorems.proofs.Steps.{elementHere, element-fits, value-here, next-here, yields-here}
+use Rattle.bson.specs.Cstring.{unlimited}
 
 -- a document's elements begin behind its length
 inner-here : (list : List ℕ) → drop 4 (documentOf list) ≡ list ++ (0 ∷ [])
@@ -29,7 +30,7 @@ unfolding listBytes
 means-from none s offset g a small low here =
     let l : length s - offset ≡ 1 = sym (length-drop offset s) ∙ ap length here in
     let e : offset ≡ terminator s = omega arith in
-    ends e (step-ends s (length s) a offset .1 e)
+    ends e (step-ends unlimited s (length s) a offset .1 e)
 means-from (leaf key v rest) s offset g a small low here =
     let tag = row v .tag in
     let value = row v .value in

@@ -10,7 +10,7 @@ use lib.ListN.{length, drop, take-append-drop, drop-of-length-le}
 use lib.Seq.{drop-cons, drop-drop}
 use Rattle.bson.specs.Answer.{gives}
 use Rattle.bson.specs.Bytes.{AreBytes, Part, bytes}
-use Rattle.bson.specs.Cstring.{validCstr}
+use Rattle.bson.specs.Cstring.{validCstr, unlimited}
 use Rattle.bson.specs.Step.{terminator, admitted, Cursor, cursor, Element, past, yield, end}
 use Rattle.bson.specs.Grammar.{nestBytes, Elements, elementBytes, listBytes, treeBytes, InOrder, Good}
 use Rattle.bson.specs.Meaning.{Holding, Yields, MeansFrom, ends, yields, opens, Means}
@@ -46,24 +46,24 @@ element-bytes s c e y =
 pub yields-codes : {s : List ℕ} {offset : ℕ} {key : List ℕ} {tag : ℕ} {h : Holding} {e : Element} → AreBytes s → Yields s offset key tag h e
     → CodesOf s (e .tag) (e .value) h
 yields-codes {s} {offset} {e = e} a y =
-    let v = sym (read-step s offset e (y .steps)) ∙ y .reads in
+    let v = sym (read-step unlimited s offset e (y .steps)) ∙ y .reads in
     subst (CodesOf s (e .tag) (e .value)) (y .holds) (element-codes s a offset e (y .value) (y .steps) v)
 
 -- what has a meaning is admitted
 means-admitted : {s : List ℕ} {offset : ℕ} {t : Elements} → MeansFrom s offset t → admitted s ≡ gives (length s)
-means-admitted (ends a x) = step-admits _ _ end x
-means-admitted (yields e y m) = step-admits _ _ (yield e) (y .steps)
-means-admitted (opens p e y i m) = step-admits _ _ (yield e) (y .steps)
+means-admitted (ends a x) = step-admits unlimited _ _ end x
+means-admitted (yields e y m) = step-admits unlimited _ _ (yield e) (y .steps)
+means-admitted (opens p e y i m) = step-admits unlimited _ _ (yield e) (y .steps)
 
 -- one element more in front of those that are the bytes of a tree
 module _ {s : List ℕ} {offset : ℕ} {key : List ℕ} {tag : ℕ} {h : Holding} {e : Element} (y : Yields s offset key tag h e) where
   key-in-order : validCstr key ≡ true
-  key-in-order = rw (← y .keyed) (key-valid s _ e (step-yields s (cursor offset false) e (y .steps)))
+  key-in-order = rw (← y .keyed) (key-valid s _ e (step-yields unlimited s (cursor offset false) e (y .steps)))
 
   in-front : (value list : List ℕ) → bytes s (e .value) ≡ value → drop (past e) s ≡ list ++ (0 ∷ [])
       → drop offset s ≡ elementBytes tag key value ++ list ++ (0 ∷ [])
   in-front value list v b =
-      element-bytes s (cursor offset false) e (step-yields s (cursor offset false) e (y .steps))
+      element-bytes s (cursor offset false) e (step-yields unlimited s (cursor offset false) e (y .steps))
       ∙ rw (y .tagged, y .keyed, v, b) (sym (append-assoc (elementBytes tag key value) list (0 ∷ [])))
 
 last-byte : (s : List ℕ) (offset : ℕ) → offset ≡ terminator s → admitted s ≡ gives (length s) → drop offset s ≡ 0 ∷ []
@@ -74,7 +74,7 @@ last-byte s offset e a =
 
 meant-from : (s : List ℕ) (offset : ℕ) (t : Elements) → AreBytes s → MeansFrom s offset t → InOrder t × (drop offset s ≡ listBytes t ++ (0 ∷ []))
 unfolding listBytes
-meant-from s offset t a (ends q x) = (tt, last-byte s offset q (step-admits _ _ end x))
+meant-from s offset t a (ends q x) = (tt, last-byte s offset q (step-admits unlimited _ _ end x))
 meant-from s offset t a (yields {rest = rest} e y m) =
     let c = yields-codes a y in
     let (o, b) = meant-from s (past e) rest a m in

@@ -11,7 +11,7 @@ use Rattle.bson.specs.Answer.{gives}
 use Rattle.bson.specs.Bytes.{Part, part, bytes, trim}
 use Rattle.bson.specs.Utf8.{utf8}
 use Rattle.bson.specs.Tags.{ElementType, EmbeddedDocument, Array, JavaScriptCodeWithScope, asDocument, tags, rowOf, typeOf}
-use Rattle.bson.specs.Framing.{scopeSize, framed}
+use Rattle.bson.specs.Framing.{scopeSize, framedUnder}
 use Rattle.bson.specs.Value as value
 use Rattle.bson.specs.Value.{Value, codeWithScope, scopeValue, content}
 use Rattle.bson.specs.Grammar.{bytes32, stringBytes, scopeBytes, documentOf}
@@ -90,7 +90,7 @@ embedded-reads : (n : Embedded) (type : ElementType) (list s : List ℕ) (offset
     → sizeFor type ≡ asDocument → ((p : Part) → (x : Value) × (content s p type ≡ gives x) × (holding s x ≡ nested (embedded n) p))
     → length list + 5 < 2147483648 → drop offset s ≡ documentOf list ++ back → offset + length (documentOf list) ≤ length s
     → ReadsNest s offset (embedded n) list back
-unfolding framed
+unfolding framedUnder
 embedded-reads n type list s offset back tagged z c small here inside =
     let d = documentOf list in
     let p = part offset (length d) in
@@ -104,7 +104,7 @@ embedded-reads n type list s offset back tagged z c small here inside =
 scope-reads : (t list s : List ℕ) (offset : ℕ) (back : List ℕ) → utf8 t ≡ true → length (scopeBytes t (documentOf list)) < 2147483648
     → drop offset s ≡ scopeBytes t (documentOf list) ++ back → offset + length (scopeBytes t (documentOf list)) ≤ length s
     → ReadsNest s offset (scope t) list back
-unfolding framed content rowOf tags
+unfolding framedUnder content rowOf tags
 scope-reads t list s offset back u small here inside =
     let v = scopeBytes t (documentOf list) in
     let n = length (stringBytes t) in

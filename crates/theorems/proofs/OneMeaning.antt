@@ -21,6 +21,7 @@ use Rattle.theorems.proofs.Passes.{KeysAsked, plain-asked, means-passes
 use Rattle.theorems.proofs.Meant.{meant-bytes}
 use Rattle.theorems.proofs.TreeOf.{accepted-tree, passed-tree}
 use Rattle.theorems.proofs.Children.{lookup-child}
+use Rattle.bson.specs.Cstring.{unlimited}
 
 -- each check accepts exactly the bytes of the good trees whose keys are as it asks
 module _ (strict : Bool) (s : List ℕ) (n : ℕ) where
@@ -38,14 +39,14 @@ same-tree : (s s′ : List ℕ) (t : Elements) → AreBytes s → AreBytes s′ 
 same-tree s s′ t a b m k = sym (meant-bytes s t a m .1) ∙ meant-bytes s′ t b k .1
 
 -- what one comes to is a part of the slice
-comes-are : (s : List ℕ) → AreBytes s → (σ : Spot) → Comes s σ → AreBytes (σ .document)
+comes-are : (s : List ℕ) → AreBytes s → (σ : Spot) → Comes unlimited s σ → AreBytes (σ .document)
 comes-are s are σ first = are
 comes-are s are τ (next {σ} e c y) = comes-are s are σ c
 comes-are s are τ (into {σ} v isArray levels p c x o) = bytes-are (σ .document) p (comes-are s are σ c)
 
-passed-throughout : (s : List ℕ) (n : ℕ) → AreBytes s → check false s ≡ gives n → (d : List ℕ) (l : Level) → Comes s (start d l) → OneTree d
+passed-throughout : (s : List ℕ) (n : ℕ) → AreBytes s → check false s ≡ gives n → (d : List ℕ) (l : Level) → Comes unlimited s (start d l) → OneTree d
 passed-throughout s n are x d l c =
-    let (m, w) = comes-accepted false s n x (start d l) c in
+    let (m, w) = comes-accepted unlimited false s n x (start d l) c in
     let small = comes-are s are (start d l) c in
     let r = accepted-tree false (start d l) m small w in
     let (good, bytes) = meant-bytes d (r .tree) small (r .means) in
@@ -54,7 +55,7 @@ passed-throughout s n are x d l c =
       good = good;
       bytes = bytes;
       means = r .means;
-      every-byte = every-byte d (check-passes s .0 (n, x) .ends d l c);
+      every-byte = every-byte d (check-passes unlimited s .0 (n, x) .ends d l c);
       lookup = lookup-child d (r .tree) small (r .means);
     }
 

@@ -10,7 +10,7 @@ use Rattle.bson.specs.Step.{Element, past}
 use Rattle.bson.specs.Value.{Value, leaf, document, array, codeWithScope}
 use Rattle.bson.specs.Level.{Opening, closed, opens, opening, Level, outermost, deeper}
 use Rattle.bson.specs.ArrayKey.{goodArrayKey}
-use Rattle.bson.specs.Check.{keyPasses, check}
+use Rattle.bson.specs.Check.{keyPasses, check, checkUnder}
 use Rattle.bson.specs.Grammar.{levels, isArray, Elements, size, Shallow, ArrayKeys}
 use Rattle.bson.specs.Meaning.{Holding, single, nested, holding, Yields, MeansFrom, ends, yields, opens as holds, Means}
 use Rattle.bson.specs.Reach.{Spot, behind}
@@ -18,6 +18,7 @@ use Rattle.laws.proofs.Common.{split}
 use Rattle.laws.proofs.ReadLaws.{read-step}
 use Rattle.laws.proofs.CheckLaws.{walk-from, walk-eq, walk-ends}
 use Rattle.theorems.proofs.Spots.{walkAt, Inner, plain, deep, more, walked-gives}
+use Rattle.bson.specs.Cstring.{unlimited}
 
 -- what a check asks of the keys in arrays: the plain one nothing
 abbrev pub KeysAsked : Bool → Bool → ℕ → Elements → Type 0
@@ -50,21 +51,21 @@ spot s l position offset = record { document = s; level = l; position = position
 yields-passes : (strict : Bool) (σ : Spot) {key : List ℕ} {tag : ℕ} {h : Holding} (e : Element) (n m : ℕ)
     → Yields (σ .document) (σ .offset) key tag h e → σ .level .depth ≤ 200
     → (strict ≡ true → σ .level .isArray ≡ true → goodArrayKey (σ .position) key ≡ true)
-    → Inner strict σ (openingOf h) n → walkAt strict (behind σ e) ≡ gives m → walkAt strict σ ≡ gives (n + m)
+    → Inner unlimited strict σ (openingOf h) n → walkAt unlimited strict (behind σ e) ≡ gives m → walkAt unlimited strict σ ≡ gives (n + m)
 yields-passes strict σ {h = h} e n m y low key i w =
-    let reads = sym (read-step (σ .document) (σ .offset) e (y .steps)) ∙ y .reads in
+    let reads = sym (read-step unlimited (σ .document) (σ .offset) e (y .steps)) ∙ y .reads in
     let is = holding-opens (σ .document) (y .value) ∙ ap openingOf (y .holds) in
     let passes : keyPasses strict (σ .level) (σ .position) (bytes (σ .document) (e .key)) ≡ true =
     rw (y .keyed) (key-asked strict (σ .level) (σ .position) _ key) in
-    walked-gives strict σ (n + m)
+    walked-gives unlimited strict σ (n + m)
     (more e n m (y .steps)
     (record { what = openingOf h; visited = record { key = passes; value = y .value; reads = reads; shallow = low; is = is }; inner = i })
     w)
 
 -- at any level, from any element on
 from-passes : (strict : Bool) (s : List ℕ) (offset : ℕ) (t : Elements) → MeansFrom s offset t → (l : Level) (position : ℕ) → Shallow (l .depth) t
-    → KeysAsked strict (l .isArray) position t → walk-from strict s l position offset ≡ gives (size t)
-from-passes strict s offset t (ends at e) l position h k = walk-ends strict s l position offset e
+    → KeysAsked strict (l .isArray) position t → walk-from unlimited strict s l position offset ≡ gives (size t)
+from-passes strict s offset t (ends at e) l position h k = walk-ends unlimited strict s l position offset e
 from-passes strict s offset t (yields {rest = rest} e y m) l position h k =
     yields-passes strict (spot s l position offset) e 1 (size rest) y (h .0) (λ q. k q .0) plain
     (from-passes strict s (past e) rest m l (suc position) (h .1) (λ q. k q .1))
@@ -76,5 +77,5 @@ from-passes strict s offset t (holds {n = n} {inner = inner} {rest = rest} p e y
 
 pub means-passes : (strict : Bool) (s : List ℕ) (t : Elements) → Means s t → Shallow 0 t → KeysAsked strict false 0 t
     → check strict s ≡ gives (size t)
-unfolding check
-means-passes strict s t m h k = walk-eq strict s outermost ∙ from-passes strict s 4 t m outermost 0 h k
+unfolding checkUnder
+means-passes strict s t m h k = walk-eq unlimited strict s outermost ∙ from-passes strict s 4 t m outermost 0 h k

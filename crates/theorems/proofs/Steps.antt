@@ -11,10 +11,10 @@ use lib.Seq.{getD-drop}
 use borrow.Author.Tests.{le-leb, ne-eqb}
 use Rattle.bson.specs.Answer.{gives}
 use Rattle.bson.specs.Bytes.{part}
-use Rattle.bson.specs.Cstring.{validCstr}
+use Rattle.bson.specs.Cstring.{validCstr, unlimited}
 use Rattle.bson.specs.Framing.{valueSize}
-use Rattle.bson.specs.Step.{terminator, admitted, cursor, Element, past, element, yield, step}
-use Rattle.bson.specs.Value.{Value, valueIn, valueOf, elementAt, readAt}
+use Rattle.bson.specs.Step.{terminator, admitted, cursor, Element, past, element, yield, step, elementUnder}
+use Rattle.bson.specs.Value.{Value, valueIn, valueOf, elementAtUnder, readAtUnder}
 use Rattle.bson.specs.Grammar.{elementBytes}
 use Rattle.bson.specs.Meaning.{Holding, holding, Yields}
 use Rattle.laws.proofs.AdvanceLaws.{step-inside}
@@ -56,7 +56,7 @@ module _ (s : List ℕ) (offset tag : ℕ) (key value back : List ℕ) (here : d
 
   module _ (valid : validCstr key ≡ true) (sized : valueSize tag (value ++ back) ≡ gives (length value)) where
     element-here : element s offset ≡ gives (elementHere offset tag key value)
-    unfolding element
+    unfolding elementUnder
     element-here = rw (key-here, cstring-of key (value ++ back) valid, tag-here, value-here, sized)
 
     module _ (admits : admitted s ≡ gives (length s)) (low : 4 ≤ offset) (more : 1 ≤ length back) where
@@ -65,11 +65,11 @@ module _ (s : List ℕ) (offset tag : ℕ) (key value back : List ℕ) (here : d
           let f = element-fits in
           let l : offset ≤ terminator s = omega arith in
           let n : offset ≡ terminator s → ⊥ = λ e. omega arith in
-          step-inside s (length s) admits offset (rw (le-leb _ _ low, le-leb _ _ l)) (ne-eqb _ _ n) ∙ rw element-here
+          step-inside unlimited s (length s) admits offset (rw (le-leb _ _ low, le-leb _ _ l)) (ne-eqb _ _ n) ∙ rw element-here
 
       pub yields-here : (v : Value) (h : Holding) → valueIn s tag (part (offset + 1 + length key + 1) (length value)) ≡ gives v → holding s v ≡ h
           → Yields s offset key tag h (elementHere offset tag key value)
-      unfolding readAt elementAt valueOf
+      unfolding readAtUnder elementAtUnder valueOf
       yields-here v h e k =
           record {
             steps = step-here;

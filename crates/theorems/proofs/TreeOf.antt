@@ -10,7 +10,7 @@ use Rattle.bson.specs.Bytes.{AreBytes, Part, bytes}
 use Rattle.bson.specs.Step.{Element}
 use Rattle.bson.specs.Level.{Opening, Level, outermost}
 use Rattle.bson.specs.ArrayKey.{goodArrayKey}
-use Rattle.bson.specs.Check.{keyPasses, check}
+use Rattle.bson.specs.Check.{keyPasses, check, checkUnder}
 use Rattle.bson.specs.Grammar.{Nest, levels, isArray, Elements, none, leaf, nest, size, Shallow}
 use Rattle.bson.specs.Meaning.{Holding, single, nested, holding, Yields, MeansFrom, ends, yields, opens}
 use Rattle.bson.specs.Reach.{Spot, start, behind, within, YieldsAt}
@@ -22,6 +22,7 @@ use Rattle.laws.proofs.GrammarBack.{bytes-are}
 use Rattle.theorems.proofs.Spots.{walkAt, left, Inner, plain, deep, Walked, ended, more, walked-says, opens-deeper}
 use Rattle.theorems.proofs.ItemsBack.{CodesOf, element-codes}
 use Rattle.theorems.proofs.Passes.{KeysAsked, openingOf, holding-opens}
+use Rattle.bson.specs.Cstring.{unlimited}
 
 -- from a spot on, the document means a tree of n values that a check accepts
 pub record Tree (strict : Bool) (σ : Spot) (n : ℕ) : Type 0 where
@@ -36,7 +37,7 @@ key-good : (strict : Bool) (l : Level) (position : ℕ) (key : List ℕ) → key
 key-good strict l position key h s a = rw (s, a) at h
 
 -- an accepted value in front of a tree
-module _ (strict : Bool) (σ : Spot) (are : AreBytes (σ .document)) (e : Element) (y : YieldsAt σ e) (what : Opening)
+module _ (strict : Bool) (σ : Spot) (are : AreBytes (σ .document)) (e : Element) (y : YieldsAt unlimited σ e) (what : Opening)
     (v : Visited strict (σ .document) (σ .level) (σ .position) e what) (m : ℕ) (rest : Tree strict (behind σ e) m) where
   abbrev keyed-by : List ℕ
   keyed-by = bytes (σ .document) (e .key)
@@ -47,12 +48,12 @@ module _ (strict : Bool) (σ : Spot) (are : AreBytes (σ .document)) (e : Elemen
 
   yielded : (h : Holding) (tag : ℕ) → holding (σ .document) (v .value) ≡ h → e .tag ≡ tag → Yields (σ .document) (σ .offset) keyed-by tag h e
   yielded h tag q t =
-      record { steps = y; keyed = refl; tagged = t; value = v .value; reads = read-step (σ .document) (σ .offset) e y ∙ v .reads; holds = q }
+      record { steps = y; keyed = refl; tagged = t; value = v .value; reads = read-step unlimited (σ .document) (σ .offset) e y ∙ v .reads; holds = q }
 
   in-front : (h : Holding) → holding (σ .document) (v .value) ≡ h
-      → ((n : Nest) (p : Part) (j : ℕ) → h ≡ nested n p → walkAt strict (within σ (isArray n) (levels n) p) ≡ gives j
+      → ((n : Nest) (p : Part) (j : ℕ) → h ≡ nested n p → walkAt unlimited strict (within σ (isArray n) (levels n) p) ≡ gives j
       → Tree strict (within σ (isArray n) (levels n) p) j)
-      → (k : ℕ) → Inner strict σ (openingOf h) k → Tree strict σ (k + m)
+      → (k : ℕ) → Inner unlimited strict σ (openingOf h) k → Tree strict σ (k + m)
   in-front (single item) q inner k plain =
       record {
         tree = leaf keyed-by item (rest .tree);
@@ -71,25 +72,25 @@ module _ (strict : Bool) (σ : Spot) (are : AreBytes (σ .document)) (e : Elemen
         counted = omega (arith, i .counted, rest .counted);
       }
 
-tree-walked : (f : ℕ) (strict : Bool) (σ : Spot) (n : ℕ) → AreBytes (σ .document) → left σ < f → Walked strict σ n → Tree strict σ n
+tree-walked : (f : ℕ) (strict : Bool) (σ : Spot) (n : ℕ) → AreBytes (σ .document) → left σ < f → Walked unlimited strict σ n → Tree strict σ n
 tree-walked zero strict σ n are l w = absurd (omega arith)
 tree-walked (suc f) strict σ n are l (ended q) =
-    record { tree = none; means = ends (ended-at (σ .document) (σ .offset) q) q; shallow = tt; asked = λ s. tt; counted = refl }
+    record { tree = none; means = ends (ended-at unlimited (σ .document) (σ .offset) q) q; shallow = tt; asked = λ s. tt; counted = refl }
 tree-walked (suc f) strict σ n are l (more e k m y o w) =
-    let z = step-yields (σ .document) _ e y in
+    let z = step-yields unlimited (σ .document) _ e y in
     let v = o .visited in
     let opened = holding-opens (σ .document) (v .value) in
-    let rest = tree-walked f strict (behind σ e) m are (omega arith) (walked-says strict (behind σ e) m w) in
-    let inner = subst (λ (x : Opening). Inner strict σ x k) (sym (v .is) ∙ opened) (o .inner) in
+    let rest = tree-walked f strict (behind σ e) m are (omega arith) (walked-says unlimited strict (behind σ e) m w) in
+    let inner = subst (λ (x : Opening). Inner unlimited strict σ x k) (sym (v .is) ∙ opened) (o .inner) in
     in-front strict σ are e y (o .what) v m rest (holding (σ .document) (v .value)) refl
-    (λ i p j q x. let r = opens-deeper σ e (v .value) (isArray i) (levels i) p y (v .reads) (opened ∙ ap openingOf q) in
-    tree-walked f strict _ j (bytes-are (σ .document) p are) (omega arith) (walked-says strict (within σ (isArray i) (levels i) p) j x))
+    (λ i p j q x. let r = opens-deeper unlimited σ e (v .value) (isArray i) (levels i) p y (v .reads) (opened ∙ ap openingOf q) in
+    tree-walked f strict _ j (bytes-are (σ .document) p are) (omega arith) (walked-says unlimited strict (within σ (isArray i) (levels i) p) j x))
     k inner
 
 -- from any spot that is accepted
-pub accepted-tree : (strict : Bool) (σ : Spot) (n : ℕ) → AreBytes (σ .document) → walkAt strict σ ≡ gives n → Tree strict σ n
-accepted-tree strict σ n are w = tree-walked (suc (left σ)) strict σ n are (omega arith) (walked-says strict σ n w)
+pub accepted-tree : (strict : Bool) (σ : Spot) (n : ℕ) → AreBytes (σ .document) → walkAt unlimited strict σ ≡ gives n → Tree strict σ n
+accepted-tree strict σ n are w = tree-walked (suc (left σ)) strict σ n are (omega arith) (walked-says unlimited strict σ n w)
 
 pub passed-tree : (strict : Bool) (s : List ℕ) (n : ℕ) → AreBytes s → check strict s ≡ gives n → Tree strict (start s outermost) n
-unfolding check
-passed-tree strict s n are x = accepted-tree strict (start s outermost) n are (sym (walk-eq strict s outermost) ∙ x)
+unfolding checkUnder
+passed-tree strict s n are x = accepted-tree strict (start s outermost) n are (sym (walk-eq unlimited strict s outermost) ∙ x)

@@ -6,6 +6,7 @@ use mathlib.Core.List.{List}
 use Rattle.bson.specs.Bytes.{Part}
 use Rattle.bson.specs.Step.{terminator, Element}
 use Rattle.bson.specs.Reach.{Among}
+use Rattle.bson.specs.Cstring.{unlimited}
 
 pub data Role : Type 0 where
   ofLength ofTerminator : Role
@@ -18,10 +19,10 @@ LiesIn i p = (p .offset ≤ i) × (i < p .offset + p .size)
 -- the byte at an offset of a document has a role; elements are those that iterating the document yields
 abbrev pub Has : List ℕ → ℕ → Role → Type 0
 Has d i ofLength = i < 4
-Has d i (ofTag e) = Among d e × (i ≡ e .place)
-Has d i (ofKey e) = Among d e × LiesIn i (e .key)
-Has d i (ofZero e) = Among d e × (i ≡ e .key .offset + e .key .size)
-Has d i (ofValue e) = Among d e × LiesIn i (e .value)
+Has d i (ofTag e) = Among unlimited d e × (i ≡ e .place)
+Has d i (ofKey e) = Among unlimited d e × LiesIn i (e .key)
+Has d i (ofZero e) = Among unlimited d e × (i ≡ e .key .offset + e .key .size)
+Has d i (ofValue e) = Among unlimited d e × LiesIn i (e .value)
 Has d i ofTerminator = i ≡ terminator d
 
 -- and no other

@@ -14,6 +14,7 @@ use Rattle.bson.specs.Check.{check}
 use Rattle.bson.specs.Grammar.{Elements, treeBytes, size, Shallow, Good, ArrayKeys}
 use Rattle.bson.specs.Meaning.{Means}
 use Rattle.bson.specs.Reach.{start, Comes}
+use Rattle.bson.specs.Cstring.{unlimited}
 use Rattle.theorems.specs.EveryByte.{OneRole}
 use Rattle.theorems.specs.Children.{childOf, LooksUp}
 
@@ -47,4 +48,4 @@ pub record OneMeaning : Type 0 where
   -- so slices that mean one tree are equal
   pub same : (s s′ : List ℕ) (t : Elements) → AreBytes s → AreBytes s′ → Means s t → Means s′ t → s ≡ s′
   -- and in a passed slice the slice itself, and every document, array and scope reached, is one tree
-  pub throughout : (s : List ℕ) (n : ℕ) → AreBytes s → check false s ≡ gives n → (d : List ℕ) (l : Level) → Comes s (start d l) → OneTree d
+  pub throughout : (s : List ℕ) (n : ℕ) → AreBytes s → check false s ≡ gives n → (d : List ℕ) (l : Level) → Comes unlimited s (start d l) → OneTree d

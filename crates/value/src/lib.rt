@@ -178,7 +178,7 @@ fn regular_expression(v: &[u8], offset: usize) -> Parsed
     requires { ⌜ offset + length (now v) < 9223372036854775808 ⌝ }
     ensures { λ r. ⌜ said r ≡ asRegex offset (patternOptions (now (v .entry))) ⌝ }
 {
-    match framing::pattern_options(v) {
+    match framing::pattern_options(v, cstr::NO_LIMIT) {
         PatternOptions::Refused(number) => Parsed::Refused(number),
         PatternOptions::Is { pattern, options } => {
             let behind = offset + pattern + 1;

@@ -11,7 +11,7 @@ use borrow.Author.Tests.{le-leb}
 use Rattle.bson.specs.Answer.{gives}
 use Rattle.bson.specs.Bytes.{le32, le64, i32, i64, Part, bytes}
 use Rattle.bson.specs.Check.{visit}
-use Rattle.bson.specs.Framing.{fits, framed, valueSize}
+use Rattle.bson.specs.Framing.{fits, framedUnder, valueSizeUnder}
 use Rattle.bson.specs.Level.{Opening, closed, opens, opening, Level}
 use Rattle.bson.specs.Step.{Cursor, Element}
 use Rattle.bson.specs.Tags
@@ -91,7 +91,7 @@ module _ (s : List ℕ) (c : Cursor) (e : Element) (y : Yields s c e) where
 
   module _ (n : ℕ) (z : sizedOf (e .tag) ≡ gives (fixed n)) where
     size-is : e .value .size ≡ n
-    unfolding valueSize framed fits
+    unfolding valueSizeUnder framedUnder fits
     size-is =
         let h = y .value-is in
         sym (gives-injective (unless-gives (leb n (length (drop (e .value .offset) s))) 9 _ (rw z at h) .1))

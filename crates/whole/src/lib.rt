@@ -4,8 +4,9 @@ ghost use mathlib.Core.Path.{_≡_};
 ghost use mathlib.Core.Bool.{true, false};
 ghost use lib.ListN.{length};
 ghost use Rattle.bson.specs.Step.{cursor};
-ghost use Rattle.bson.specs.Check.{visit as visitOf, opened, walk, check as checkOf};
+ghost use Rattle.bson.specs.Check.{visit as visitOf, opened, walkUnder, checkUnder, check as checkOf};
 ghost use Rattle.laws.proofs.StepLaws.{Yields};
+ghost use Rattle.cstr.specs.Said.{limitOf};
 ghost use Rattle.iter.specs.Said.{saidElement};
 ghost use Rattle.visiting.specs.Said.{saidLevel, saidVisited};
 ghost use Rattle.whole.specs.Said.{said};
@@ -25,9 +26,9 @@ pub enum Verdict {
 }
 
 // Walks a document: its values in order, each opened.
-fn walk_document(s: &[u8], strict: bool, level: Level) -> Verdict
+fn walk_document(s: &[u8], strict: bool, level: Level, limit: usize) -> Verdict
     requires { ⌜ level .base + length (now s) < 2 ^ 63 ⌝ }
-    ensures { λ r. ⌜ said r ≡ walk strict (now (s .entry)) (saidLevel level) ⌝ }
+    ensures { λ r. ⌜ said r ≡ walkUnder (limitOf limit) strict (now (s .entry)) (saidLevel level) ⌝ }
 {
     // a part made here is handed on as two words, and not copied as one from the caller's two
     let whole = &s[0..];
@@ -38,7 +39,7 @@ fn walk_document(s: &[u8], strict: bool, level: Level) -> Verdict
             offset,
             ended: false,
         };
-        match iter::next(whole, cursor) {
+        match iter::next_under(whole, cursor, limit) {
             Step::End { next: _ } => {
                 return Verdict::Accepted(count);
             }
@@ -53,7 +54,13 @@ fn walk_document(s: &[u8], strict: bool, level: Level) -> Verdict
                     place: outer,
                 };
             }
-            Step::Yield { element, next } => match open_value(whole, strict, level, element) {
+            Step::Yield { element, next } => match open_value(
+                whole,
+                strict,
+                level,
+                element,
+                limit,
+            ) {
                 Verdict::Refused { number, place } => {
                     return Verdict::Refused { number, place };
                 }
@@ -119,10 +126,10 @@ fn visit_framed(s: &[u8], strict: bool, level: Level, element: Element) -> Visit
 }
 
 // Opens a value that a step yielded: visits it, and walks the document inside it, if there is one.
-fn open_value(s: &[u8], strict: bool, level: Level, element: Element) -> Verdict
+fn open_value(s: &[u8], strict: bool, level: Level, element: Element, limit: usize) -> Verdict
     requires { ⌜ (level .base + length (now s) < 2 ^ 63) × Yields (now s) (cursor (element .place) false) (saidElement element) ⌝ }
     ensures { λ r. ⌜ ((position : ℕ) → said r
-        ≡ opened strict (walk strict) (now (s .entry)) (saidLevel level) position (saidElement element)) ⌝ }
+        ≡ opened strict (walkUnder (limitOf limit) strict) (now (s .entry)) (saidLevel level) position (saidElement element)) ⌝ }
 {
     match visit_framed(s, strict, level, element) {
         Visited::Refused(number) => {
@@ -139,7 +146,9 @@ fn open_value(s: &[u8], strict: bool, level: Level, element: Element) -> Verdict
                 let base = level.base + inner.offset;
                 let depth = level.depth + levels;
                 let deeper = Level { array, base, depth };
-                match walk_document(part::bytes_of(s, inner), strict, deeper) {
+                let start = inner.offset;
+                let end = start + inner.size;
+                match walk_document(&s[start..end], strict, deeper, limit) {
                     Verdict::Refused { number, place } => Verdict::Refused { number, place },
                     Verdict::Accepted(values) => {
                         let all = 1 + values;
@@ -152,27 +161,41 @@ fn open_value(s: &[u8], strict: bool, level: Level, element: Element) -> Verdict
 }
 
 // Walks the slice itself; top values have depth 0.
-fn check_either(s: &[u8], strict: bool) -> Verdict
-    ensures { λ r. ⌜ said r ≡ checkOf strict (now (s .entry)) ⌝ }
+fn check_either(s: &[u8], strict: bool, limit: usize) -> Verdict
+    ensures { λ r. ⌜ said r ≡ checkUnder (limitOf limit) strict (now (s .entry)) ⌝ }
 {
     let outermost = Level {
         array: false,
         base: 0,
         depth: 0,
     };
-    walk_document(s, strict, outermost)
+    walk_document(s, strict, outermost, limit)
 }
 
 // The plain check of a slice: admission, then every value that can be reached, each read and none deeper than 200.
+pub fn check_under(s: &[u8], limit: usize) -> Verdict
+    ensures { λ r. ⌜ said r ≡ checkUnder (limitOf limit) false (now (s .entry)) ⌝ }
+{
+    check_either(s, false, limit)
+}
+
+// The same without a limit.
 pub fn check(s: &[u8]) -> Verdict
     ensures { λ r. ⌜ said r ≡ checkOf false (now (s .entry)) ⌝ }
 {
-    check_either(s, false)
+    check_under(s, cstr::NO_LIMIT)
 }
 
 // The strict check: the plain one, and 19 for a key of an array that is not one or more decimal digits.
+pub fn check_strict_under(s: &[u8], limit: usize) -> Verdict
+    ensures { λ r. ⌜ said r ≡ checkUnder (limitOf limit) true (now (s .entry)) ⌝ }
+{
+    check_either(s, true, limit)
+}
+
+// The same without a limit.
 pub fn check_strict(s: &[u8]) -> Verdict
     ensures { λ r. ⌜ said r ≡ checkOf true (now (s .entry)) ⌝ }
 {
-    check_either(s, true)
+    check_strict_under(s, cstr::NO_LIMIT)
 }

@@ -2,7 +2,7 @@
 use mathlib.Core.Path.{sym}
 use borrow.Author.Tests.{lt-ltb, le-ltb}
 use lib.Seq.{length-take-le}
-use Rattle.bson.specs.Cstring.{cstring}
+use Rattle.bson.specs.Cstring.{zeroText}
 use borrow.Author.Needs.{needs}
 use native.Mathlib.Omega.{arith}
 use Rattle.cstr.proofs.read_mixed.Statement.{statement}
@@ -18,19 +18,19 @@ is-utf8-requires : tie.Need-is-utf8-requires
 is-utf8-requires c κs = search needs
 
 returns : tie.Need-returns
-unfolding cstring
+unfolding zeroText
 returns c =
     let b = c .before .before .before in
     rw (← b .before .first-zero .ensures, lt-ltb _ _ (b .if1 .taken), ← c .before .is-utf8 .ensures, c .if2 .taken)
 
 returns-2 : tie.Need-returns-2
-unfolding cstring
+unfolding zeroText
 returns-2 c =
     let b = c .before .before .before in
     rw (← b .before .first-zero .ensures, lt-ltb _ _ (b .if1 .taken), ← c .before .is-utf8 .ensures, c .if2 .left)
 
 returns-3 : tie.Need-returns-3
-unfolding cstring
+unfolding zeroText
 returns-3 c = rw (← c .before .first-zero .ensures, le-ltb _ _ (c .if1 .left))
 
 pub read-mixed-spec : {M : Type 1} → statement M

@@ -1,50 +1,60 @@
 -- `document::find` meets its contract: the search from each offset is the whole search. Assumes nothing.
 use Prim.Native.Nat.{ℕ, _+_, _-_, _≤_}
-use mathlib.Core.Path.{_≡_, refl, sym, _∙_}
+use mathlib.Core.Path.{_≡_, refl, sym, ap, _∙_}
 use mathlib.Core.List.{List}
 use mathlib.Core.Bool.{true, false}
-use lib.ListN.{length}
+use lib.ListN.{length, take, drop}
 use native.Mathlib.Omega.{arith}
 use Rattle.bson.specs.Answer.{gives, refuses}
+use Rattle.bson.specs.Cstring.{Limit}
 use Rattle.bson.specs.Bytes.{part, bytes, same}
-use Rattle.bson.specs.Step.{cursor, yield, end, step}
-use Rattle.bson.specs.Lookup.{found, get}
+use Rattle.bson.specs.Step.{cursor, yield, end, stepUnder}
+use Rattle.bson.specs.Lookup.{found, getUnder}
 use Rattle.laws.proofs.AnswerLaws.{answered}
+use Rattle.laws.proofs.BytesLaws.{slice-part}
 use Rattle.laws.proofs.Common.{rest-part}
 use Rattle.laws.proofs.StepLaws.{step-yields}
 use Rattle.laws.proofs.LookupLaws.{search-from, search-ends, search-refused, search-found, search-onward}
+use Rattle.cstr.specs.Said.{limitOf}
 use Rattle.iter.specs.Said.{sized, saidSizes}
 use borrow.Author.Needs.{needs}
 use Rattle.document.proofs.find.Statement.{statement}
 use Rattle.document.proofs.find.Tie as tie
 
+-- the bytes from a key's start up to its zero
+abbrev upToZero : List ℕ → ℕ → ℕ → List ℕ
+upToZero s start size = take (start + size - start) (drop start s)
+
 -- the loop goes over `whole`, which is all of the slice
-record Searching (s key whole : List ℕ) (offset : ℕ) : Type 0 where
+record Searching (limit : Limit) (s key whole : List ℕ) (offset : ℕ) : Type 0 where
   all : whole ≡ s
-  left : search-from s key offset ≡ get s key
+  left : search-from limit s key offset ≡ getUnder limit s key
 
-module _ (s key whole : List ℕ) (offset : ℕ) (i : Searching s key whole offset) where
-  ends : step whole (cursor offset false) ≡ gives end → refuses 16 offset ≡ get s key
-  ends e = sym (search-ends s key offset (rw (i .all) at e)) ∙ i .left
+module _ (limit : Limit) (s key whole : List ℕ) (offset : ℕ) (i : Searching limit s key whole offset) where
+  ends : stepUnder limit whole (cursor offset false) ≡ gives end → refuses 16 offset ≡ getUnder limit s key
+  ends e = sym (search-ends _ s key offset (rw (i .all) at e)) ∙ i .left
 
-  refused : (n p : ℕ) → step whole (cursor offset false) ≡ refuses n p → refuses n p ≡ get s key
-  refused n p e = sym (search-refused s key offset n p (rw (i .all) at e)) ∙ i .left
+  refused : (n p : ℕ) → stepUnder limit whole (cursor offset false) ≡ refuses n p → refuses n p ≡ getUnder limit s key
+  refused n p e = sym (search-refused _ s key offset n p (rw (i .all) at e)) ∙ i .left
 
-  module _ (tag name size : ℕ) (y : step whole (cursor offset false) ≡ gives (yield (sized offset tag name size))) where
-    inside : (offset + 1 + name + 1 + size ≤ length s) × (offset + 2 ≤ offset + 1 + name + 1)
-    inside = let w = step-yields s (cursor offset false) _ (rw (i .all) at y) in (w .inside, w .wide)
+  module _ (tag name size : ℕ) (y : stepUnder limit whole (cursor offset false) ≡ gives (yield (sized offset tag name size))) where
+    inside : (offset + 1 + name + 1 + size ≤ length s) × (length whole ≡ length s)
+    inside = (step-yields _ s (cursor offset false) _ (rw (i .all) at y) .inside, ap length (i .all))
 
-    matched : (v : List ℕ) → v ≡ bytes whole (part (offset + 1) name) → same key v ≡ true → found s (sized offset tag name size) ≡ get s key
-    matched v e k = sym (search-found s key offset _ (rw (i .all) at y) (rw (e, i .all) at k)) ∙ i .left
+    named : upToZero whole (offset + 1) name ≡ bytes s (part (offset + 1) name)
+    named = rw (i .all) (slice-part s (part (offset + 1) name))
 
-    onward : (v : List ℕ) → v ≡ bytes whole (part (offset + 1) name) → same key v ≡ false → Searching s key whole (offset + 1 + name + 1 + size)
-    onward v e k = record { all = i .all; left = sym (search-onward s key offset _ (rw (i .all) at y) (rw (e, i .all) at k)) ∙ i .left }
+    matched : same key (upToZero whole (offset + 1) name) ≡ true → found s (sized offset tag name size) ≡ getUnder limit s key
+    matched k = sym (search-found _ s key offset _ (rw (i .all) at y) (rw named at k)) ∙ i .left
+
+    onward : same key (upToZero whole (offset + 1) name) ≡ false → Searching limit s key whole (offset + 1 + name + 1 + size)
+    onward k = record { all = i .all; left = sym (search-onward _ s key offset _ (rw (i .all) at y) (rw named at k)) ∙ i .left }
 
 abbrev Inv-loop : tie.InvT-loop
-Inv-loop s key whole place₀ place = Searching s key whole place
+Inv-loop s key limit whole place₀ place = Searching (limitOf limit) s key whole place
 
 abbrev μ-loop : tie.MeasureT-loop
-μ-loop s key whole place₀ place = length s - place
+μ-loop s key limit whole place₀ place = length s - place
 
 sub-whole : tie.Need-sub-whole Inv-loop μ-loop
 sub-whole c = search needs
@@ -56,7 +66,7 @@ part-whole-end : tie.Need-part-whole-end Inv-loop μ-loop
 part-whole-end c = search needs
 
 loop-holds : tie.Need-loop-holds Inv-loop μ-loop
-unfolding get
+unfolding getUnder
 loop-holds c = record { all = rest-part _ 0; left = refl }
 
 sizes-at-requires : tie.Need-sizes-at-requires Inv-loop μ-loop
@@ -66,7 +76,7 @@ enum-told : tie.Need-enum-told Inv-loop μ-loop
 enum-told c = c .match .keys1
 
 returns : tie.Need-returns Inv-loop μ-loop
-returns c = ends _ _ _ _ (c .before .before .before .loop .inv) (answered (saidSizes _) (c .before .before .sizes-at .ensures) (c .enum-told .given .1))
+returns c = ends _ _ _ _ _ (c .before .before .before .loop .inv) (answered (saidSizes _) (c .before .before .sizes-at .ensures) (c .enum-told .given .1))
 
 enum-known-number : tie.Need-enum-known-number Inv-loop μ-loop
 enum-known-number c = c .match .keys2
@@ -74,7 +84,7 @@ enum-known-number c = c .match .keys2
 returns-2 : tie.Need-returns-2 Inv-loop μ-loop
 returns-2 c =
     let b = c .before in
-    refused _ _ _ _ (b .before .before .before .loop .inv) _ _ (answered (saidSizes _) (b .before .before .sizes-at .ensures) (b .number .given .1))
+    refused _ _ _ _ _ (b .before .before .before .loop .inv) _ _ (answered (saidSizes _) (b .before .before .sizes-at .ensures) (b .number .given .1))
 
 enum-known-tag : tie.Need-enum-known-tag Inv-loop μ-loop
 enum-known-tag c = c .match .keys3
@@ -82,20 +92,28 @@ enum-known-tag c = c .match .keys3
 add-start : tie.Need-add-start Inv-loop μ-loop
 add-start c =
     let b = c .before in
-    omega (arith, inside _ _ _ _ (b .before .before .before .loop .inv) _ _ _ (answered (saidSizes _) (b .before .before .sizes-at .ensures) (b .tag .given .1)))
+    omega (arith, inside _ _ _ _ _ (b .before .before .before .loop .inv) _ _ _ (answered (saidSizes _) (b .before .before .sizes-at .ensures) (b .tag .given .1)))
+
+add-zero : tie.Need-add-zero Inv-loop μ-loop
+add-zero c =
+    let b = c .before in
+    omega (arith, inside _ _ _ _ _ (b .before .before .before .loop .inv) _ _ _ (answered (saidSizes _) (b .before .before .sizes-at .ensures) (b .tag .given .1)))
 
 add-behind : tie.Need-add-behind Inv-loop μ-loop
 add-behind c =
     let b = c .before in
-    omega (arith, inside _ _ _ _ (b .before .before .before .loop .inv) _ _ _ (answered (saidSizes _) (b .before .before .sizes-at .ensures) (b .tag .given .1)))
+    omega (arith, inside _ _ _ _ _ (b .before .before .before .loop .inv) _ _ _ (answered (saidSizes _) (b .before .before .sizes-at .ensures) (b .tag .given .1)))
 
-add-behind-2 : tie.Need-add-behind-2 Inv-loop μ-loop
-add-behind-2 c =
+sub-equal : tie.Need-sub-equal Inv-loop μ-loop
+sub-equal c = search needs
+
+part-equal-start : tie.Need-part-equal-start Inv-loop μ-loop
+part-equal-start c = search needs
+
+part-equal-end : tie.Need-part-equal-end Inv-loop μ-loop
+part-equal-end c =
     let b = c .before in
-    omega (arith, inside _ _ _ _ (b .before .before .before .loop .inv) _ _ _ (answered (saidSizes _) (b .before .before .sizes-at .ensures) (b .tag .given .1)))
-
-bytes-of-requires : tie.Need-bytes-of-requires Inv-loop μ-loop
-bytes-of-requires c κs = tt
+    omega (arith, inside _ _ _ _ _ (b .before .before .before .loop .inv) _ _ _ (answered (saidSizes _) (b .before .before .sizes-at .ensures) (b .tag .given .1)))
 
 equal-requires : tie.Need-equal-requires Inv-loop μ-loop
 equal-requires c κs = tt
@@ -104,23 +122,23 @@ returns-3 : tie.Need-returns-3 Inv-loop μ-loop
 returns-3 c =
     let b = c .before .before .before .before in
     let y = answered (saidSizes _) (b .before .before .sizes-at .ensures) (b .tag .given .1) in
-    matched _ _ _ _ (b .before .before .before .loop .inv) _ _ _ y _ (c .before .before .bytes-of .ensures) (sym (c .before .equal .ensures) ∙ c .if1 .taken)
+    matched _ _ _ _ _ (b .before .before .before .loop .inv) _ _ _ y (sym (c .before .equal .ensures) ∙ c .if1 .taken)
 
 add-place : tie.Need-add-place Inv-loop μ-loop
 add-place c =
     let b = c .before .before .before .before in
-    omega (arith, inside _ _ _ _ (b .before .before .before .loop .inv) _ _ _ (answered (saidSizes _) (b .before .before .sizes-at .ensures) (b .tag .given .1)))
+    omega (arith, inside _ _ _ _ _ (b .before .before .before .loop .inv) _ _ _ (answered (saidSizes _) (b .before .before .sizes-at .ensures) (b .tag .given .1)))
 
 loop-less : tie.Need-loop-less Inv-loop μ-loop
 loop-less c =
     let b = c .before .before .before .before in
-    omega (arith, inside _ _ _ _ (b .before .before .before .loop .inv) _ _ _ (answered (saidSizes _) (b .before .before .sizes-at .ensures) (b .tag .given .1)))
+    omega (arith, inside _ _ _ _ _ (b .before .before .before .loop .inv) _ _ _ (answered (saidSizes _) (b .before .before .sizes-at .ensures) (b .tag .given .1)))
 
 loop-again : tie.Need-loop-again Inv-loop μ-loop
 loop-again c =
     let b = c .before .before .before .before in
     let y = answered (saidSizes _) (b .before .before .sizes-at .ensures) (b .tag .given .1) in
-    onward _ _ _ _ (b .before .before .before .loop .inv) _ _ _ y _ (c .before .before .bytes-of .ensures) (sym (c .before .equal .ensures) ∙ c .if1 .left)
+    onward _ _ _ _ _ (b .before .before .before .loop .inv) _ _ _ y (sym (c .before .equal .ensures) ∙ c .if1 .left)
 
 pub find-spec : {M : Type 1} → statement M
 find-spec =
@@ -139,9 +157,11 @@ find-spec =
     returns-2
     enum-known-tag
     add-start
+    add-zero
     add-behind
-    add-behind-2
-    bytes-of-requires
+    sub-equal
+    part-equal-start
+    part-equal-end
     equal-requires
     returns-3
     add-place

@@ -5,10 +5,10 @@ use mathlib.Core.List.{List}
 use lib.ListN.{length, take, drop}
 use Rattle.bson.specs.Answer.{Answer, gives, refuses, then}
 use Rattle.bson.specs.Bytes.{part}
-use Rattle.bson.specs.Cstring.{cstring}
-use Rattle.bson.specs.Framing.{patternOptions}
+use Rattle.bson.specs.Cstring.{Limit, cstringUnder}
+use Rattle.bson.specs.Framing.{patternOptionsUnder}
 use Rattle.laws.proofs.Common.{rest-part}
-use Rattle.laws.proofs.CstringLaws.{cstring-below}
+use Rattle.laws.proofs.CstringLaws.{cstring-inside}
 use Rattle.cstr.specs.Said.{said}
 use Rattle.laws.proofs.AnswerLaws.{answered}
 use borrow.Author.Needs.{needs}
@@ -16,16 +16,16 @@ use native.Mathlib.Omega.{arith}
 use Rattle.framing.proofs.pattern_options.Statement.{statement}
 use Rattle.framing.proofs.pattern_options.Tie as tie
 
-module _ (v : List ℕ) (p : ℕ) (pattern : cstring v ≡ gives p) where
+module _ (limit : Limit) (v : List ℕ) (p : ℕ) (pattern : cstringUnder limit v ≡ gives p) where
   -- what the rest of the part answers for the options decides
-  options : (x : Answer ℕ) → cstring (take (length v - (p + 1)) (drop (p + 1) v)) ≡ x
-      → then x (λ n. gives (part 0 p, part (p + 1) n)) ≡ patternOptions v
-  unfolding patternOptions
-  options (gives n) e = rw (pattern, ← ap cstring (rest-part v (p + 1)), e)
-  options (refuses n k) e = rw (pattern, ← ap cstring (rest-part v (p + 1)), e)
+  options : (x : Answer ℕ) → cstringUnder limit (take (length v - (p + 1)) (drop (p + 1) v)) ≡ x
+      → then x (λ n. gives (part 0 p, part (p + 1) n)) ≡ patternOptionsUnder limit v
+  unfolding patternOptionsUnder
+  options (gives n) e = rw (pattern, ← ap (cstringUnder limit) (rest-part v (p + 1)), e)
+  options (refuses n k) e = rw (pattern, ← ap (cstringUnder limit) (rest-part v (p + 1)), e)
 
-read-cstring-requires : tie.Need-read-cstring-requires
-read-cstring-requires c κs = search needs
+read-cstring-with-max-len-requires : tie.Need-read-cstring-with-max-len-requires
+read-cstring-with-max-len-requires c κs = search needs
 
 enum-known-why : tie.Need-enum-known-why
 enum-known-why c = search needs
@@ -35,24 +35,24 @@ enum-known-pattern c = search needs
 
 add-o : tie.Need-add-o
 add-o c =
-    let q = answered said (c .before .before .before .read-cstring .ensures) (c .before .pattern .given .1) in
-    omega (arith, cstring-below _ _ q)
+    let q = answered said (c .before .before .before .read-cstring-with-max-len .ensures) (c .before .pattern .given .1) in
+    omega (arith, cstring-inside _ _ _ q)
 
-sub-read-cstring : tie.Need-sub-read-cstring
-sub-read-cstring c =
-    let q = answered said (c .before .before .before .read-cstring .ensures) (c .before .pattern .given .1) in
-    omega (arith, cstring-below _ _ q)
+sub-read-cstring-with-max-len : tie.Need-sub-read-cstring-with-max-len
+sub-read-cstring-with-max-len c =
+    let q = answered said (c .before .before .before .read-cstring-with-max-len .ensures) (c .before .pattern .given .1) in
+    omega (arith, cstring-inside _ _ _ q)
 
-part-read-cstring-start : tie.Need-part-read-cstring-start
-part-read-cstring-start c =
-    let q = answered said (c .before .before .before .read-cstring .ensures) (c .before .pattern .given .1) in
-    omega (arith, cstring-below _ _ q)
+part-read-cstring-with-max-len-start : tie.Need-part-read-cstring-with-max-len-start
+part-read-cstring-with-max-len-start c =
+    let q = answered said (c .before .before .before .read-cstring-with-max-len .ensures) (c .before .pattern .given .1) in
+    omega (arith, cstring-inside _ _ _ q)
 
-part-read-cstring-end : tie.Need-part-read-cstring-end
-part-read-cstring-end c = search needs
+part-read-cstring-with-max-len-end : tie.Need-part-read-cstring-with-max-len-end
+part-read-cstring-with-max-len-end c = search needs
 
-read-cstring-requires-2 : tie.Need-read-cstring-requires-2
-read-cstring-requires-2 c κs = search needs
+read-cstring-with-max-len-requires-2 : tie.Need-read-cstring-with-max-len-requires-2
+read-cstring-with-max-len-requires-2 c κs = search needs
 
 enum-known-why-2 : tie.Need-enum-known-why-2
 enum-known-why-2 c = search needs
@@ -61,33 +61,33 @@ enum-known-options : tie.Need-enum-known-options
 enum-known-options c = search needs
 
 returns : tie.Need-returns
-unfolding patternOptions
-returns c = rw (answered said (c .before .before .before .read-cstring .ensures) (c .before .why .given .1))
+unfolding patternOptionsUnder
+returns c = rw (answered said (c .before .before .before .read-cstring-with-max-len .ensures) (c .before .why .given .1))
 
 returns-2 : tie.Need-returns-2
 returns-2 c =
     let b = c .before .before .before .before .before in
-    let q = answered said (b .before .before .before .read-cstring .ensures) (b .before .pattern .given .1) in
-    options _ _ q _ (answered said (c .before .before .before .read-cstring2 .ensures) (c .before .why2 .given .1))
+    let q = answered said (b .before .before .before .read-cstring-with-max-len .ensures) (b .before .pattern .given .1) in
+    options _ _ _ q _ (answered said (c .before .before .before .read-cstring-with-max-len2 .ensures) (c .before .why2 .given .1))
 
 returns-3 : tie.Need-returns-3
 returns-3 c =
     let b = c .before .before .before .before .before in
-    let q = answered said (b .before .before .before .read-cstring .ensures) (b .before .pattern .given .1) in
-    options _ _ q _ (answered said (c .before .before .before .read-cstring2 .ensures) (c .before .options .given .1))
+    let q = answered said (b .before .before .before .read-cstring-with-max-len .ensures) (b .before .pattern .given .1) in
+    options _ _ _ q _ (answered said (c .before .before .before .read-cstring-with-max-len2 .ensures) (c .before .options .given .1))
 
 pub pattern-options-spec : {M : Type 1} → statement M
 pattern-options-spec =
     tie.close
     (tie.spec
-    read-cstring-requires
+    read-cstring-with-max-len-requires
     enum-known-why
     enum-known-pattern
     add-o
-    sub-read-cstring
-    part-read-cstring-start
-    part-read-cstring-end
-    read-cstring-requires-2
+    sub-read-cstring-with-max-len
+    part-read-cstring-with-max-len-start
+    part-read-cstring-with-max-len-end
+    read-cstring-with-max-len-requires-2
     enum-known-why-2
     enum-known-options
     returns

@@ -1,6 +1,6 @@
 -- `framing::regex_len` meets its contract: the pattern and the options, each with a zero behind it. Assumes nothing.
-use Rattle.bson.specs.Framing.{regexSize}
-use Rattle.laws.proofs.FramingLaws.{pattern-options-fit}
+use Rattle.bson.specs.Framing.{regexSizeUnder}
+use Rattle.laws.proofs.FramingLaws.{pattern-options-fit, pattern-options-under}
 use Rattle.laws.proofs.AnswerLaws.{answered}
 use Rattle.framing.specs.Said.{saidPatternOptions}
 use borrow.Author.Needs.{needs}
@@ -17,27 +17,27 @@ enum-known-why c = search needs
 enum-known-pattern : tie.Need-enum-known-pattern
 enum-known-pattern c = search needs
 
-add-t7 : tie.Need-add-t7
-add-t7 c =
-    let f = pattern-options-fit _ _ (answered saidPatternOptions (c .before .before .before .pattern-options .ensures) (c .before .pattern .given .1)) in
-    omega arith
-
 add-t8 : tie.Need-add-t8
 add-t8 c =
-    let f = pattern-options-fit _ _ (answered saidPatternOptions (c .before .before .before .pattern-options .ensures) (c .before .pattern .given .1)) in
+    let f = pattern-options-fit _ _ (pattern-options-under _ _ _ (answered saidPatternOptions (c .before .before .before .pattern-options .ensures) (c .before .pattern .given .1))) in
     omega arith
 
 add-t9 : tie.Need-add-t9
 add-t9 c =
-    let f = pattern-options-fit _ _ (answered saidPatternOptions (c .before .before .before .pattern-options .ensures) (c .before .pattern .given .1)) in
+    let f = pattern-options-fit _ _ (pattern-options-under _ _ _ (answered saidPatternOptions (c .before .before .before .pattern-options .ensures) (c .before .pattern .given .1))) in
+    omega arith
+
+add-t10 : tie.Need-add-t10
+add-t10 c =
+    let f = pattern-options-fit _ _ (pattern-options-under _ _ _ (answered saidPatternOptions (c .before .before .before .pattern-options .ensures) (c .before .pattern .given .1))) in
     omega arith
 
 returns : tie.Need-returns
-unfolding regexSize
+unfolding regexSizeUnder
 returns c = rw (answered saidPatternOptions (c .before .before .before .pattern-options .ensures) (c .before .why .given .1))
 
 returns-2 : tie.Need-returns-2
-unfolding regexSize
+unfolding regexSizeUnder
 returns-2 c = rw (answered saidPatternOptions (c .before .before .before .pattern-options .ensures) (c .before .pattern .given .1))
 
 pub regex-len-spec : {M : Type 1} → statement M
@@ -47,8 +47,8 @@ regex-len-spec =
     pattern-options-requires
     enum-known-why
     enum-known-pattern
-    add-t7
     add-t8
     add-t9
+    add-t10
     returns
     returns-2)

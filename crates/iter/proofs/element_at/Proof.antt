@@ -4,11 +4,11 @@ use mathlib.Core.Path.{_≡_, ap, sym, _∙_}
 use mathlib.Core.List.{List}
 use lib.ListN.{length, getD, take, drop, length-drop}
 use Rattle.bson.specs.Answer.{Answer, gives, refuses, then, at}
-use Rattle.bson.specs.Cstring.{cstring}
-use Rattle.bson.specs.Framing.{valueSize}
-use Rattle.bson.specs.Step.{element, yield, yielding}
+use Rattle.bson.specs.Cstring.{Limit, cstringUnder}
+use Rattle.bson.specs.Framing.{valueSizeUnder}
+use Rattle.bson.specs.Step.{elementUnder, yield, yieldingUnder}
 use Rattle.laws.proofs.Common.{rest-part}
-use Rattle.laws.proofs.CstringLaws.{cstring-below}
+use Rattle.laws.proofs.CstringLaws.{cstring-inside}
 use Rattle.laws.proofs.AnswerLaws.{answered}
 use Rattle.cstr.specs.Said.{said}
 use Rattle.iter.specs.Said.{sized}
@@ -20,35 +20,35 @@ use Rattle.iter.proofs.element_at.Tie as tie
 abbrev rest : List ℕ → ℕ → List ℕ
 rest s a = take (length s - a) (drop a s)
 
-key-refuses : (s : List ℕ) (p n k : ℕ) → cstring (rest s (p + 1)) ≡ refuses n k → refuses n p ≡ at p (yielding s p)
-unfolding element
-key-refuses s p n k e = rw (← ap cstring (rest-part s (p + 1)), e)
+key-refuses : (limit : Limit) (s : List ℕ) (p n k : ℕ) → cstringUnder limit (rest s (p + 1)) ≡ refuses n k → refuses n p ≡ at p (yieldingUnder limit s p)
+unfolding elementUnder
+key-refuses limit s p n k e = rw (← ap (cstringUnder limit) (rest-part s (p + 1)), e)
 
-module _ (s : List ℕ) (p k : ℕ) (key : cstring (rest s (p + 1)) ≡ gives k) where
+module _ (limit : Limit) (s : List ℕ) (p k : ℕ) (key : cstringUnder limit (rest s (p + 1)) ≡ gives k) where
   key-below : p + 1 + k < length s
-  key-below = omega (arith, cstring-below _ k (sym (ap cstring (rest-part s (p + 1))) ∙ key), length-drop (p + 1) s)
+  key-below = omega (arith, cstring-inside limit _ k (sym (ap (cstringUnder limit) (rest-part s (p + 1))) ∙ key), length-drop (p + 1) s)
 
   -- what the rest of the slice answers for the value decides
-  valued : (x : Answer ℕ) → valueSize (getD s p 0) (rest s (p + 1 + k + 1)) ≡ x
-      → at p (then x (λ n. gives (yield (sized p (getD s p 0) k n)))) ≡ at p (yielding s p)
-  unfolding element
-  valued (gives n) e = rw (← ap cstring (rest-part s (p + 1)), key, ← ap (valueSize _) (rest-part s (p + 1 + k + 1)), e)
-  valued (refuses n q) e = rw (← ap cstring (rest-part s (p + 1)), key, ← ap (valueSize _) (rest-part s (p + 1 + k + 1)), e)
+  valued : (x : Answer ℕ) → valueSizeUnder limit (getD s p 0) (rest s (p + 1 + k + 1)) ≡ x
+      → at p (then x (λ n. gives (yield (sized p (getD s p 0) k n)))) ≡ at p (yieldingUnder limit s p)
+  unfolding elementUnder
+  valued (gives n) e = rw (← ap (cstringUnder limit) (rest-part s (p + 1)), key, ← ap (valueSizeUnder limit _) (rest-part s (p + 1 + k + 1)), e)
+  valued (refuses n q) e = rw (← ap (cstringUnder limit) (rest-part s (p + 1)), key, ← ap (valueSizeUnder limit _) (rest-part s (p + 1 + k + 1)), e)
 
 add-start : tie.Need-add-start
 add-start c = search needs
 
-sub-read-cstring : tie.Need-sub-read-cstring
-sub-read-cstring c = search needs
+sub-read-cstring-with-max-len : tie.Need-sub-read-cstring-with-max-len
+sub-read-cstring-with-max-len c = search needs
 
-part-read-cstring-start : tie.Need-part-read-cstring-start
-part-read-cstring-start c = search needs
+part-read-cstring-with-max-len-start : tie.Need-part-read-cstring-with-max-len-start
+part-read-cstring-with-max-len-start c = search needs
 
-part-read-cstring-end : tie.Need-part-read-cstring-end
-part-read-cstring-end c = search needs
+part-read-cstring-with-max-len-end : tie.Need-part-read-cstring-with-max-len-end
+part-read-cstring-with-max-len-end c = search needs
 
-read-cstring-requires : tie.Need-read-cstring-requires
-read-cstring-requires c κs = tt
+read-cstring-with-max-len-requires : tie.Need-read-cstring-with-max-len-requires
+read-cstring-with-max-len-requires c κs = tt
 
 enum-known-why : tie.Need-enum-known-why
 enum-known-why c = c .match .keys1
@@ -63,25 +63,25 @@ add-offset : tie.Need-add-offset
 add-offset c =
     let b = c .before .before in
     let a = b .before .before .before .before .before .args in
-    omega (arith, key-below (a .s .now) (a .place) _ (answered said (b .before .before .read-cstring .ensures) (b .key .given .1)))
+    omega (arith, key-below _ (a .s .now) (a .place) _ (answered said (b .before .before .read-cstring-with-max-len .ensures) (b .key .given .1)))
 
 add-offset-2 : tie.Need-add-offset-2
 add-offset-2 c =
     let b = c .before .before in
     let a = b .before .before .before .before .before .args in
-    omega (arith, key-below (a .s .now) (a .place) _ (answered said (b .before .before .read-cstring .ensures) (b .key .given .1)))
+    omega (arith, key-below _ (a .s .now) (a .place) _ (answered said (b .before .before .read-cstring-with-max-len .ensures) (b .key .given .1)))
 
 sub-value-len : tie.Need-sub-value-len
 sub-value-len c =
     let b = c .before .before in
     let a = b .before .before .before .before .before .args in
-    omega (arith, key-below (a .s .now) (a .place) _ (answered said (b .before .before .read-cstring .ensures) (b .key .given .1)))
+    omega (arith, key-below _ (a .s .now) (a .place) _ (answered said (b .before .before .read-cstring-with-max-len .ensures) (b .key .given .1)))
 
 part-value-len-start : tie.Need-part-value-len-start
 part-value-len-start c =
     let b = c .before .before in
     let a = b .before .before .before .before .before .args in
-    omega (arith, key-below (a .s .now) (a .place) _ (answered said (b .before .before .read-cstring .ensures) (b .key .given .1)))
+    omega (arith, key-below _ (a .s .now) (a .place) _ (answered said (b .before .before .read-cstring-with-max-len .ensures) (b .key .given .1)))
 
 part-value-len-end : tie.Need-part-value-len-end
 part-value-len-end c = search needs
@@ -96,18 +96,18 @@ enum-known-value : tie.Need-enum-known-value
 enum-known-value c = c .match2 .keys2
 
 returns : tie.Need-returns
-returns c = key-refuses _ _ _ _ (answered said (c .before .before .before .read-cstring .ensures) (c .before .why .given .1))
+returns c = key-refuses _ _ _ _ _ (answered said (c .before .before .before .read-cstring-with-max-len .ensures) (c .before .why .given .1))
 
 returns-2 : tie.Need-returns-2
 returns-2 c =
     let b = c .before .before .before .before .before .before .before in
-    valued _ _ _ (answered said (b .before .before .read-cstring .ensures) (b .key .given .1))
+    valued _ _ _ _ (answered said (b .before .before .read-cstring-with-max-len .ensures) (b .key .given .1))
     _ (answered said (c .before .before .before .value-len .ensures) (c .before .number .given .1))
 
 returns-3 : tie.Need-returns-3
 returns-3 c =
     let b = c .before .before .before .before .before .before .before in
-    valued _ _ _ (answered said (b .before .before .read-cstring .ensures) (b .key .given .1))
+    valued _ _ _ _ (answered said (b .before .before .read-cstring-with-max-len .ensures) (b .key .given .1))
     _ (answered said (c .before .before .before .value-len .ensures) (c .before .value .given .1))
 
 pub element-at-spec : {M : Type 1} → statement M
@@ -115,10 +115,10 @@ element-at-spec =
     tie.close
     (tie.spec
     add-start
-    sub-read-cstring
-    part-read-cstring-start
-    part-read-cstring-end
-    read-cstring-requires
+    sub-read-cstring-with-max-len
+    part-read-cstring-with-max-len-start
+    part-read-cstring-with-max-len-end
+    read-cstring-with-max-len-requires
     enum-known-why
     enum-known-key
     shared-slice-read-tag

@@ -6,7 +6,8 @@ use mathlib.Core.Bool.{false}
 use lib.ListN.{length}
 use borrow.Author.Tests.{le-leb, lt-leb, ne-eqb}
 use Rattle.bson.specs.Answer.{gives, refuses, at}
-use Rattle.bson.specs.Step.{terminator, admitted, cursor, end, yielding, step}
+use Rattle.bson.specs.Step.{terminator, admitted, cursor, end, yieldingUnder, stepUnder}
+use Rattle.bson.specs.Cstring.{Limit}
 use Rattle.laws.proofs.AnswerLaws.{answered}
 use Rattle.laws.proofs.StepLaws.{admitted-says}
 use Rattle.laws.proofs.AdvanceLaws.{step-unadmitted, step-outside, step-ends, step-inside}
@@ -20,25 +21,26 @@ module _ (s : List ℕ) (n offset : ℕ) (a : admitted s ≡ gives n) where
   last : n - 1 ≡ terminator s
   last = ap (λ (m : ℕ). m - 1) (admitted-says s n a .1)
 
-  ends : offset ≡ n - 1 → step s (cursor offset false) ≡ gives end
-  ends e = step-ends s n a offset .1 (e ∙ last)
-
   below : offset < n - 1 → offset < length s
   below h = omega (arith, admitted-says s n a)
 
-  inside : offset < n - 1 → 4 ≤ offset → step s (cursor offset false) ≡ at offset (yielding s offset)
-  inside high low =
-      let l = last in
-      step-inside s n a offset (rw (le-leb 4 offset low, le-leb offset (terminator s) (omega arith))) (ne-eqb offset (terminator s) (λ (q : offset ≡ terminator s). omega arith))
+  module _ (limit : Limit) where
+    ends : offset ≡ n - 1 → stepUnder limit s (cursor offset false) ≡ gives end
+    ends e = step-ends limit s n a offset .1 (e ∙ last)
 
-  before : offset < 4 → step s (cursor offset false) ≡ refuses 4 offset
-  before h = step-outside s n a offset (rw (lt-leb 4 offset h))
+    inside : offset < n - 1 → 4 ≤ offset → stepUnder limit s (cursor offset false) ≡ at offset (yieldingUnder limit s offset)
+    inside high low =
+        let l = last in
+        step-inside limit s n a offset (rw (le-leb 4 offset low, le-leb offset (terminator s) (omega arith))) (ne-eqb offset (terminator s) (λ (q : offset ≡ terminator s). omega arith))
 
-  behind : n - 1 ≤ offset → (offset ≡ n - 1 → ⊥) → step s (cursor offset false) ≡ refuses 4 offset
-  behind h e =
-      let l = last in
-      let f = admitted-says s n a .0 in
-      step-outside s n a offset (rw (le-leb 4 offset (omega arith), lt-leb offset (terminator s) (omega arith)))
+    before : offset < 4 → stepUnder limit s (cursor offset false) ≡ refuses 4 offset
+    before h = step-outside limit s n a offset (rw (lt-leb 4 offset h))
+
+    behind : n - 1 ≤ offset → (offset ≡ n - 1 → ⊥) → stepUnder limit s (cursor offset false) ≡ refuses 4 offset
+    behind h e =
+        let l = last in
+        let f = admitted-says s n a .0 in
+        step-outside limit s n a offset (rw (le-leb 4 offset (omega arith), lt-leb offset (terminator s) (omega arith)))
 
 admit-requires : tie.Need-admit-requires
 admit-requires c κs = tt
@@ -63,25 +65,25 @@ returns : tie.Need-returns
 returns c =
     let b = c .before .before .before .before in
     let a = answered said (b .before .before .admit .ensures) (b .n .given .1) in
-    c .element-at .ensures ∙ sym (inside _ _ _ a (c .before .before .if1 .taken) (c .before .if2 .taken))
+    c .element-at .ensures ∙ sym (inside _ _ _ a _ (c .before .before .if1 .taken) (c .before .if2 .taken))
 
 returns-2 : tie.Need-returns-2
 returns-2 c =
     let b = c .before .before .before in
-    sym (before _ _ _ (answered said (b .before .before .admit .ensures) (b .n .given .1)) (c .if2 .left))
+    sym (before _ _ _ (answered said (b .before .before .admit .ensures) (b .n .given .1)) _ (c .if2 .left))
 
 returns-3 : tie.Need-returns-3
 returns-3 c =
     let b = c .before .before .before in
-    sym (ends _ _ _ (answered said (b .before .before .admit .ensures) (b .n .given .1)) (c .if3 .taken))
+    sym (ends _ _ _ (answered said (b .before .before .admit .ensures) (b .n .given .1)) _ (c .if3 .taken))
 
 returns-4 : tie.Need-returns-4
-returns-4 c = sym (step-unadmitted _ _ _ _ (answered said (c .before .before .before .admit .ensures) (c .before .number .given .1)))
+returns-4 c = sym (step-unadmitted _ _ _ _ _ (answered said (c .before .before .before .admit .ensures) (c .before .number .given .1)))
 
 returns-5 : tie.Need-returns-5
 returns-5 c =
     let b = c .before .before .before in
-    sym (behind _ _ _ (answered said (b .before .before .admit .ensures) (b .n .given .1)) (c .before .if1 .left) (c .if3 .left))
+    sym (behind _ _ _ (answered said (b .before .before .admit .ensures) (b .n .given .1)) _ (c .before .if1 .left) (c .if3 .left))
 
 pub sizes-at-spec : {M : Type 1} → statement M
 sizes-at-spec =

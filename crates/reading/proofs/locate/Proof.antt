@@ -1,12 +1,12 @@
 -- `reading::locate` meets its contract: the element that the step there yields. Assumes nothing.
-use Rattle.bson.specs.Value.{elementAt}
+use Rattle.bson.specs.Value.{elementAtUnder}
 use Rattle.laws.proofs.AnswerLaws.{answered}
 use Rattle.iter.specs.Said as step
 use Rattle.reading.proofs.locate.Statement.{statement}
 use Rattle.reading.proofs.locate.Tie as tie
 
-next-requires : tie.Need-next-requires
-next-requires c κs = tt
+next-under-requires : tie.Need-next-under-requires
+next-under-requires c κs = tt
 
 enum-known-number : tie.Need-enum-known-number
 enum-known-number c = c .match .keys1
@@ -18,22 +18,22 @@ enum-known-element : tie.Need-enum-known-element
 enum-known-element c = c .match .keys3
 
 returns : tie.Need-returns
-unfolding elementAt
-returns c = rw (answered step.said (c .before .before .before .next .ensures .0) (c .before .number .given .1))
+unfolding elementAtUnder
+returns c = rw (answered step.said (c .before .before .before .next-under .ensures .0) (c .before .number .given .1))
 
 returns-2 : tie.Need-returns-2
-unfolding elementAt
-returns-2 c = rw (answered step.said (c .before .before .next .ensures .0) (c .enum-told .given .1))
+unfolding elementAtUnder
+returns-2 c = rw (answered step.said (c .before .before .next-under .ensures .0) (c .enum-told .given .1))
 
 returns-3 : tie.Need-returns-3
-unfolding elementAt
-returns-3 c = rw (answered step.said (c .before .before .before .next .ensures .0) (c .before .element .given .1))
+unfolding elementAtUnder
+returns-3 c = rw (answered step.said (c .before .before .before .next-under .ensures .0) (c .before .element .given .1))
 
 pub locate-spec : {M : Type 1} → statement M
 locate-spec =
     tie.close
     (tie.spec
-    next-requires
+    next-under-requires
     enum-known-number
     enum-told
     enum-known-element

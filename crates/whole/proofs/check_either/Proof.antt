@@ -1,5 +1,5 @@
 -- `whole::check_either` meets its contract: the walk of the slice itself. Assumes nothing.
-use Rattle.bson.specs.Check.{check}
+use Rattle.bson.specs.Check.{checkUnder}
 use borrow.Author.Needs.{needs}
 use Rattle.whole.proofs.check_either.Statement.{statement}
 use Rattle.whole.proofs.check_either.Tie as tie
@@ -8,7 +8,7 @@ walk-document-requires : tie.Need-walk-document-requires
 walk-document-requires c κs = search needs
 
 returns : tie.Need-returns
-unfolding check
+unfolding checkUnder
 returns c = c .walk-document .ensures
 
 pub check-either-spec : {M : Type 1} → statement M

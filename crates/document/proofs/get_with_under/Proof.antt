@@ -1,9 +1,9 @@
--- `document::get_with` meets its contract: the element that is found, read, and the test of its tag. Assumes nothing.
-use Rattle.bson.specs.Lookup.{getWith}
+-- `document::get_with_under` meets its contract: the element that is found, read, and the test of its tag. Assumes nothing.
+use Rattle.bson.specs.Lookup.{getWithUnder}
 use Rattle.laws.proofs.AnswerLaws.{answered}
 use Rattle.document.specs.Said.{reads}
-use Rattle.document.proofs.get_with.Statement.{statement}
-use Rattle.document.proofs.get_with.Tie as tie
+use Rattle.document.proofs.get_with_under.Statement.{statement}
+use Rattle.document.proofs.get_with_under.Tie as tie
 
 find-requires : tie.Need-find-requires
 find-requires c κs = tt
@@ -18,17 +18,17 @@ read-element-with-requires : tie.Need-read-element-with-requires
 read-element-with-requires c κs = tt
 
 returns : tie.Need-returns
-unfolding getWith
+unfolding getWithUnder
 returns c = rw (answered (reads _) (c .before .before .before .find .ensures) (c .before .number .given .1))
 
 returns-2 : tie.Need-returns-2
-unfolding getWith
+unfolding getWithUnder
 returns-2 c =
     let b = c .before .before in
     rw (answered (reads _) (b .before .before .find .ensures) (b .element .given .1)) (c .read-element-with .ensures)
 
-pub get-with-spec : {M : Type 1} → statement M
-get-with-spec =
+pub get-with-under-spec : {M : Type 1} → statement M
+get-with-under-spec =
     tie.close
     (tie.spec
     find-requires

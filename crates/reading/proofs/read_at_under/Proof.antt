@@ -1,9 +1,9 @@
--- `reading::read_at` meets its contract: the element at the place, then its value. Assumes nothing.
-use Rattle.bson.specs.Value.{readAt}
+-- `reading::read_at_under` meets its contract: the element at the place, then its value. Assumes nothing.
+use Rattle.bson.specs.Value.{readAtUnder}
 use Rattle.laws.proofs.AnswerLaws.{answered}
 use Rattle.reading.specs.Said.{saidLocated}
-use Rattle.reading.proofs.read_at.Statement.{statement}
-use Rattle.reading.proofs.read_at.Tie as tie
+use Rattle.reading.proofs.read_at_under.Statement.{statement}
+use Rattle.reading.proofs.read_at_under.Tie as tie
 
 locate-requires : tie.Need-locate-requires
 locate-requires c κs = tt
@@ -18,15 +18,15 @@ value-of-requires : tie.Need-value-of-requires
 value-of-requires c κs = tt
 
 returns : tie.Need-returns
-unfolding readAt
+unfolding readAtUnder
 returns c = rw (answered saidLocated (c .before .before .before .locate .ensures) (c .before .number .given .1))
 
 returns-2 : tie.Need-returns-2
-unfolding readAt
+unfolding readAtUnder
 returns-2 c = rw (answered saidLocated (c .before .before .before .before .locate .ensures) (c .before .before .element .given .1)) (c .value-of .ensures)
 
-pub read-at-spec : {M : Type 1} → statement M
-read-at-spec =
+pub read-at-under-spec : {M : Type 1} → statement M
+read-at-under-spec =
     tie.close
     (tie.spec
     locate-requires

@@ -1,14 +1,14 @@
--- `reading::part_at` meets its contract: a part of what its twin reads, else nothing. Assumes nothing.
+-- `reading::part_at_under` meets its contract: a part of what its twin reads, else nothing. Assumes nothing.
 use mathlib.Core.Path.{ap, _∙_, refl}
 use Rattle.bson.specs.Bytes.{bytes}
-use Rattle.bson.specs.Value.{partAt}
+use Rattle.bson.specs.Value.{partAtUnder}
 use Rattle.laws.proofs.AnswerLaws.{answered}
 use Rattle.reading.specs.Said.{said}
-use Rattle.reading.proofs.part_at.Statement.{statement}
-use Rattle.reading.proofs.part_at.Tie as tie
+use Rattle.reading.proofs.part_at_under.Statement.{statement}
+use Rattle.reading.proofs.part_at_under.Tie as tie
 
-read-with-requires : tie.Need-read-with-requires
-read-with-requires c κs = tt
+read-with-under-requires : tie.Need-read-with-under-requires
+read-with-under-requires c κs = tt
 
 enum-told : tie.Need-enum-told
 enum-told c = c .match .keys1
@@ -26,20 +26,20 @@ bytes-of-requires : tie.Need-bytes-of-requires
 bytes-of-requires c κs = tt
 
 returns : tie.Need-returns
-unfolding partAt
-returns c = rw (answered said (c .before .before .before .read-with .ensures) (c .before .enum-told .given .1))
+unfolding partAtUnder
+returns c = rw (answered said (c .before .before .before .read-with-under .ensures) (c .before .enum-told .given .1))
 
 returns-2 : tie.Need-returns-2
-unfolding partAt
+unfolding partAtUnder
 returns-2 c =
     let b = c .before .before .before in
-    rw (answered said (b .before .before .read-with .ensures) (b .value .given .1)) (c .bytes-of .ensures ∙ ap (bytes _) (c .before .part-of .ensures))
+    rw (answered said (b .before .before .read-with-under .ensures) (b .value .given .1)) (c .bytes-of .ensures ∙ ap (bytes _) (c .before .part-of .ensures))
 
-pub part-at-spec : {M : Type 1} → statement M
-part-at-spec =
+pub part-at-under-spec : {M : Type 1} → statement M
+part-at-under-spec =
     tie.close
     (tie.spec
-    read-with-requires
+    read-with-under-requires
     enum-told
     slice-aggregate-result
     enum-known-value

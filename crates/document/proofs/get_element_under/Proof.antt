@@ -1,9 +1,9 @@
--- `document::get_element` meets its contract: the element that is found, read. Assumes nothing.
+-- `document::get_element_under` meets its contract: the element that is found, read. Assumes nothing.
 use mathlib.Core.Path.{sym, _∙_}
 use Rattle.laws.proofs.AnswerLaws.{answered}
 use Rattle.document.specs.Said.{reads}
-use Rattle.document.proofs.get_element.Statement.{statement}
-use Rattle.document.proofs.get_element.Tie as tie
+use Rattle.document.proofs.get_element_under.Statement.{statement}
+use Rattle.document.proofs.get_element_under.Tie as tie
 
 find-requires : tie.Need-find-requires
 find-requires c κs = tt
@@ -25,8 +25,8 @@ returns-2 c =
     let b = c .before .before in
     c .read-element .ensures ∙ sym (answered (reads _) (b .before .before .find .ensures) (b .element .given .1))
 
-pub get-element-spec : {M : Type 1} → statement M
-get-element-spec =
+pub get-element-under-spec : {M : Type 1} → statement M
+get-element-under-spec =
     tie.close
     (tie.spec
     find-requires

@@ -1,13 +1,13 @@
--- `iter::key_at` meets its contract: the key of what the step yields, else nothing. Assumes nothing.
-use Rattle.bson.specs.Step.{keyAt}
+-- `iter::key_at_under` meets its contract: the key of what the step yields, else nothing. Assumes nothing.
+use Rattle.bson.specs.Step.{keyAtUnder}
 use Rattle.laws.proofs.AnswerLaws.{answered}
 use Rattle.iter.specs.Said.{said}
 use borrow.Author.Needs.{needs}
-use Rattle.iter.proofs.key_at.Statement.{statement}
-use Rattle.iter.proofs.key_at.Tie as tie
+use Rattle.iter.proofs.key_at_under.Statement.{statement}
+use Rattle.iter.proofs.key_at_under.Tie as tie
 
-next-requires : tie.Need-next-requires
-next-requires c κs = search needs
+next-under-requires : tie.Need-next-under-requires
+next-under-requires c κs = search needs
 
 enum-known-element : tie.Need-enum-known-element
 enum-known-element c = search needs
@@ -28,24 +28,24 @@ slice-aggregate-result-2 : tie.Need-slice-aggregate-result-2
 slice-aggregate-result-2 c = search needs
 
 returns : tie.Need-returns
-unfolding keyAt
+unfolding keyAtUnder
 returns c =
     let b = c .before .before .before in
-    rw (answered said (b .before .before .next .ensures .0) (b .element .given .1)) (c .bytes-of .ensures)
+    rw (answered said (b .before .before .next-under .ensures .0) (b .element .given .1)) (c .bytes-of .ensures)
 
 returns-2 : tie.Need-returns-2
-unfolding keyAt
-returns-2 c = rw (answered said (c .before .before .before .next .ensures .0) (c .before .enum-told .given .1))
+unfolding keyAtUnder
+returns-2 c = rw (answered said (c .before .before .before .next-under .ensures .0) (c .before .enum-told .given .1))
 
 returns-3 : tie.Need-returns-3
-unfolding keyAt
-returns-3 c = rw (answered said (c .before .before .before .next .ensures .0) (c .before .enum-told2 .given .1))
+unfolding keyAtUnder
+returns-3 c = rw (answered said (c .before .before .before .next-under .ensures .0) (c .before .enum-told2 .given .1))
 
-pub key-at-spec : {M : Type 1} → statement M
-key-at-spec =
+pub key-at-under-spec : {M : Type 1} → statement M
+key-at-under-spec =
     tie.close
     (tie.spec
-    next-requires
+    next-under-requires
     enum-known-element
     bytes-of-requires
     enum-told

@@ -1,9 +1,9 @@
--- `reading::read_with` meets its contract: the element at the place, then its value. Assumes nothing.
-use Rattle.bson.specs.Value.{readWith}
+-- `reading::read_with_under` meets its contract: the element at the place, then its value. Assumes nothing.
+use Rattle.bson.specs.Value.{readWithUnder}
 use Rattle.laws.proofs.AnswerLaws.{answered}
 use Rattle.reading.specs.Said.{saidLocated}
-use Rattle.reading.proofs.read_with.Statement.{statement}
-use Rattle.reading.proofs.read_with.Tie as tie
+use Rattle.reading.proofs.read_with_under.Statement.{statement}
+use Rattle.reading.proofs.read_with_under.Tie as tie
 
 locate-requires : tie.Need-locate-requires
 locate-requires c κs = tt
@@ -18,15 +18,15 @@ value-with-requires : tie.Need-value-with-requires
 value-with-requires c κs = tt
 
 returns : tie.Need-returns
-unfolding readWith
+unfolding readWithUnder
 returns c = rw (answered saidLocated (c .before .before .before .locate .ensures) (c .before .number .given .1))
 
 returns-2 : tie.Need-returns-2
-unfolding readWith
+unfolding readWithUnder
 returns-2 c = rw (answered saidLocated (c .before .before .before .before .locate .ensures) (c .before .before .element .given .1)) (c .value-with .ensures)
 
-pub read-with-spec : {M : Type 1} → statement M
-read-with-spec =
+pub read-with-under-spec : {M : Type 1} → statement M
+read-with-under-spec =
     tie.close
     (tie.spec
     locate-requires

@@ -1,0 +1,13 @@
+-- `whole::check_strict_under` meets its contract: the walk that asks for the keys of arrays. Assumes nothing.
+use borrow.Author.Needs.{needs}
+use Rattle.whole.proofs.check_strict_under.Statement.{statement}
+use Rattle.whole.proofs.check_strict_under.Tie as tie
+
+check-either-requires : tie.Need-check-either-requires
+check-either-requires c κs = search needs
+
+returns : tie.Need-returns
+returns c = c .check-either .ensures
+
+pub check-strict-under-spec : {M : Type 1} → statement M
+check-strict-under-spec = tie.close (tie.spec check-either-requires returns)
