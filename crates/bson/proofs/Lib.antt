@@ -1,5 +1,6 @@
 pub mod Vectors
 pub mod Decided
+pub mod LimitPoints
 pub mod Report
 pub mod GrammarPoints
 pub mod WriterPoints

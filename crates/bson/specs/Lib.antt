@@ -20,6 +20,7 @@ pub mod Join
 pub mod Report
 pub mod Vectors
 pub mod Decided
+pub mod LimitPoints
 pub mod GrammarPoints
 pub mod WriterPoints
 pub mod JoinPoints

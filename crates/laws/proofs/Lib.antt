@@ -10,6 +10,7 @@ pub mod OpenLaws
 pub mod ReadLaws
 pub mod PartLaws
 pub mod StepLaws
+pub mod LimitLaws
 pub mod AdvanceLaws
 pub mod TagLaws
 pub mod Utf8Laws

@@ -6,6 +6,7 @@ pub mod Count
 pub mod Passed
 pub mod Typed
 pub mod Demand3
+pub mod Limited
 pub mod Items
 pub mod Nests
 pub mod Steps

@@ -1,4 +1,5 @@
 pub mod Demand3
+pub mod Limited
 pub mod EveryByte
 pub mod Children
 pub mod OneMeaning
