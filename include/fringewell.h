@@ -28,16 +28,17 @@
 extern "C" {
 #endif
 
-#define FRINGEWELL_VERSION "0.8.0"
+#define FRINGEWELL_VERSION "0.9.0"
 #define FRINGEWELL_VERSION_MAJOR 0
-#define FRINGEWELL_VERSION_MINOR 8
+#define FRINGEWELL_VERSION_MINOR 9
 #define FRINGEWELL_VERSION_PATCH 0
 
 #define FRINGEWELL_STACK_BYTES 98304
 
-/* The numbers. `number` in an answer is 0, or the number of the refusal; 1 to 13 mean damage. What a refusal does not give is 0.
- * `place` is the offset, in the slice given, of the tag byte of the element that the refusal is about; for 4 it is the offset where the
- * step would begin, for 16 that of the terminator, for 1 to 3 of the given slice 0. The terminator is a document's last byte. */
+/* The numbers. `number` in an answer is 0, or the number of the refusal; 1 to 13 mean damage, and under a limit 22. What a refusal does
+ * not give is 0. `place` is the offset, in the slice given, of the tag byte of the element that the refusal is about; for 4 it is the
+ * offset where the step would begin, for 16 that of the terminator, for 1 to 3 of the given slice 0. The terminator is a document's last
+ * byte. */
 enum {
     FRINGEWELL_OK = 0,              /* no refusal */
     FRINGEWELL_TOO_SHORT = 1,       /* document under 5 bytes */
@@ -59,7 +60,8 @@ enum {
     FRINGEWELL_OTHER_TYPE = 17,     /* value of another type than asked */
     FRINGEWELL_OUT_OF_TURN = 18,    /* writer call or writer state out of turn */
     FRINGEWELL_BAD_ARRAY_KEY = 19,  /* strict check: bad array key */
-    FRINGEWELL_INPUT_TOO_LONG = 20  /* programs: input over 65,535 bytes; no call of this library gives it */
+    FRINGEWELL_INPUT_TOO_LONG = 20, /* programs: input over 65,535 bytes; no call of this library gives it */
+    FRINGEWELL_TOO_LONG = 22        /* key, pattern or options longer than the limit, or without a zero byte under one */
 };
 
 /* The tags: all that there are. */
@@ -137,6 +139,11 @@ typedef struct {
 
 /* ---- Reading. Every call but fringewell_value_of admits the document first: 1, 2, 3, in this order. ---- */
 
+/* Limits. A call whose name ends in `_under` answers as the call in front of it, but under a limit: with limit m a key, a pattern or
+ * options may have at most m bytes, at every level, else 22, before 6. What is answered of such a text depends on the first m + 1 bytes
+ * from where it begins alone, and 22 stands in the place of 5. These calls always have a limit set, SIZE_MAX too; the others have none.
+ * Not limited are the key that is looked up, and texts with their length in front. */
+
 /* The whole check: every element of every level, its value read, none deeper than 200 (top values have depth 0; inside documents and
  * arrays it is one more, inside a scope two). Refused by 1 to 13, the first met in the document's order; else `count` is the number of
  * values. A document that passed is then refused by none of 1 to 13 in a lookup, in a step from offset 4 or from where the last one
@@ -144,8 +151,15 @@ typedef struct {
  * is of its length, of one element's tag, key, zero or value, or its last zero; the same holds of every document inside. */
 fringewell_verdict fringewell_check(const uint8_t *document, size_t length);
 
-/* The same, and every key of an array is one or more decimal digits: else 19, before its value is read. */
+/* The whole check under a limit. Refused by 1 to 4, 6 to 13 and 22. A document that passed is then refused by none of 1 to 13 and 22 in
+ * those calls under the same limit; and it passes without one, with the same count. */
+fringewell_verdict fringewell_check_under(const uint8_t *document, size_t length, size_t limit);
+
+/* The whole check, and every key of an array is one or more decimal digits: else 19, before its value is read. */
 fringewell_verdict fringewell_check_strict(const uint8_t *document, size_t length);
+
+/* The strict check under a limit. Refused by 1 to 4, 6 to 13, 19 and 22; at one element by 22 before 19. */
+fringewell_verdict fringewell_check_strict_under(const uint8_t *document, size_t length, size_t limit);
 
 /* `count` is 1 where the document has no element, else 0. Refused by 1 to 3. */
 fringewell_verdict fringewell_is_empty(const uint8_t *document, size_t length);
@@ -154,19 +168,32 @@ fringewell_verdict fringewell_is_empty(const uint8_t *document, size_t length);
  * in its value; damage behind it is not seen. A key with a zero byte, or not UTF-8, matches nothing. */
 fringewell_found fringewell_lookup(const uint8_t *document, size_t length, const uint8_t *key, size_t key_length);
 
-/* The same, of a value that must have this tag: else 17, at the element found, once its value is read. */
+/* The lookup under a limit. Refused by 16, and by 1 to 4, 6 to 12 and 22 for damage before the element or in it. */
+fringewell_found fringewell_lookup_under(const uint8_t *document, size_t length, const uint8_t *key, size_t key_length, size_t limit);
+
+/* The lookup of a value that must have this tag: else 17, at the element found, once its value is read. */
 fringewell_found fringewell_lookup_typed(const uint8_t *document, size_t length, const uint8_t *key, size_t key_length, uint8_t tag);
+
+/* The typed lookup under a limit. Refused by 16, by 1 to 4, 6 to 12 and 22 for damage before the element or in it, and then by 17. */
+fringewell_found fringewell_lookup_typed_under(const uint8_t *document, size_t length, const uint8_t *key, size_t key_length, uint8_t tag,
+                                               size_t limit);
 
 /* One step of an iteration, which starts with offset 4 and ended false and goes on with `next` and `ended`. number 0 and ended 0: an
  * element, framed but not read. number 0 and ended 1: the end, at the terminator or where the cursor had ended. Refused by 1 to 10. An
  * end or a refusal sets the mark and keeps the offset. Any cursor gets an answer. */
 fringewell_stepped fringewell_step(const uint8_t *document, size_t length, size_t offset, bool ended);
 
+/* One step under a limit. Refused by 1 to 4, 6 to 10 and 22. */
+fringewell_stepped fringewell_step_under(const uint8_t *document, size_t length, size_t offset, bool ended, size_t limit);
+
 /* The value of the element whose tag byte is at this place. Refused by 16 where the place is the terminator, and by 1 to 12. Any place
  * gets an answer. */
 fringewell_value fringewell_read(const uint8_t *document, size_t length, size_t place);
 
-/* The value of an element that fringewell_step or a lookup gave of the same bytes, by its place, tag, offset and size: answered as by
+/* The value at a place under a limit. Refused by 16, and by 1 to 4, 6 to 12 and 22. */
+fringewell_value fringewell_read_under(const uint8_t *document, size_t length, size_t place, size_t limit);
+
+/* The value of an element that a step or a lookup gave of the same bytes, by its place, tag, offset and size: answered as by
  * fringewell_read at its place, with no second step, and so refused by 6, 11, 12 and, of a code with scope, by 1 to 3 and 8 to 10 too.
  * The document is not admitted. Any numbers get an answer, and no byte outside the document is read: 9 where the value would run past
  * it, then 7, then what its bytes hold of this type, refused by 5 and those above; all at the place given. Of numbers that no call gave,

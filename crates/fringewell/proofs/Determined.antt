@@ -10,18 +10,30 @@ use Rattle.bson.specs.Writer.{Desk, desk}
 use Rattle.laws.proofs.Determined.{Determined, DeterminedBuf}
 use Rattle.fringewell.proofs.fringewell_check.Reads as check-reads
 use Rattle.fringewell.proofs.fringewell_check.Kinds as check-kinds
+use Rattle.fringewell.proofs.fringewell_check_under.Reads as check-under-reads
+use Rattle.fringewell.proofs.fringewell_check_under.Kinds as check-under-kinds
 use Rattle.fringewell.proofs.fringewell_check_strict.Reads as check-strict-reads
 use Rattle.fringewell.proofs.fringewell_check_strict.Kinds as check-strict-kinds
+use Rattle.fringewell.proofs.fringewell_check_strict_under.Reads as check-strict-under-reads
+use Rattle.fringewell.proofs.fringewell_check_strict_under.Kinds as check-strict-under-kinds
 use Rattle.fringewell.proofs.fringewell_is_empty.Reads as is-empty-reads
 use Rattle.fringewell.proofs.fringewell_is_empty.Kinds as is-empty-kinds
 use Rattle.fringewell.proofs.fringewell_lookup.Reads as lookup-reads
 use Rattle.fringewell.proofs.fringewell_lookup.Kinds as lookup-kinds
+use Rattle.fringewell.proofs.fringewell_lookup_under.Reads as lookup-under-reads
+use Rattle.fringewell.proofs.fringewell_lookup_under.Kinds as lookup-under-kinds
 use Rattle.fringewell.proofs.fringewell_lookup_typed.Reads as lookup-typed-reads
 use Rattle.fringewell.proofs.fringewell_lookup_typed.Kinds as lookup-typed-kinds
+use Rattle.fringewell.proofs.fringewell_lookup_typed_under.Reads as lookup-typed-under-reads
+use Rattle.fringewell.proofs.fringewell_lookup_typed_under.Kinds as lookup-typed-under-kinds
 use Rattle.fringewell.proofs.fringewell_step.Reads as step-reads
 use Rattle.fringewell.proofs.fringewell_step.Kinds as step-kinds
+use Rattle.fringewell.proofs.fringewell_step_under.Reads as step-under-reads
+use Rattle.fringewell.proofs.fringewell_step_under.Kinds as step-under-kinds
 use Rattle.fringewell.proofs.fringewell_read.Reads as read-reads
 use Rattle.fringewell.proofs.fringewell_read.Kinds as read-kinds
+use Rattle.fringewell.proofs.fringewell_read_under.Reads as read-under-reads
+use Rattle.fringewell.proofs.fringewell_read_under.Kinds as read-under-kinds
 use Rattle.fringewell.proofs.fringewell_value_of.Reads as value-of-reads
 use Rattle.fringewell.proofs.fringewell_value_of.Kinds as value-of-kinds
 use Rattle.fringewell.proofs.fringewell_join.Reads as join-reads
@@ -80,8 +92,14 @@ both {A} {B} a₁ a₂ b₁ b₂ p q = (ap (λ (y : A × B). y .0) (p ∙ sym q)
 pub fringewell-check-determined : (κs : Lfts 1) (a : Dens κs check-kinds.ps) → Determined (check-reads.Post κs a)
 fringewell-check-determined κs a r₁ r₂ s₁ s₂ p q = p ∙ sym q
 
+pub fringewell-check-under-determined : (κs : Lfts 1) (a : Dens κs check-under-kinds.ps) → Determined (check-under-reads.Post κs a)
+fringewell-check-under-determined κs a r₁ r₂ s₁ s₂ p q = p ∙ sym q
+
 pub fringewell-check-strict-determined : (κs : Lfts 1) (a : Dens κs check-strict-kinds.ps) → Determined (check-strict-reads.Post κs a)
 fringewell-check-strict-determined κs a r₁ r₂ s₁ s₂ p q = p ∙ sym q
+
+pub fringewell-check-strict-under-determined : (κs : Lfts 1) (a : Dens κs check-strict-under-kinds.ps) → Determined (check-strict-under-reads.Post κs a)
+fringewell-check-strict-under-determined κs a r₁ r₂ s₁ s₂ p q = p ∙ sym q
 
 pub fringewell-is-empty-determined : (κs : Lfts 1) (a : Dens κs is-empty-kinds.ps) → Determined (is-empty-reads.Post κs a)
 fringewell-is-empty-determined κs a r₁ r₂ s₁ s₂ p q = p ∙ sym q
@@ -89,14 +107,26 @@ fringewell-is-empty-determined κs a r₁ r₂ s₁ s₂ p q = p ∙ sym q
 pub fringewell-lookup-determined : (κs : Lfts 2) (a : Dens κs lookup-kinds.ps) → Determined (lookup-reads.Post κs a)
 fringewell-lookup-determined κs a r₁ r₂ s₁ s₂ p q = p ∙ sym q
 
+pub fringewell-lookup-under-determined : (κs : Lfts 2) (a : Dens κs lookup-under-kinds.ps) → Determined (lookup-under-reads.Post κs a)
+fringewell-lookup-under-determined κs a r₁ r₂ s₁ s₂ p q = p ∙ sym q
+
 pub fringewell-lookup-typed-determined : (κs : Lfts 2) (a : Dens κs lookup-typed-kinds.ps) → Determined (lookup-typed-reads.Post κs a)
 fringewell-lookup-typed-determined κs a r₁ r₂ s₁ s₂ p q = p ∙ sym q
+
+pub fringewell-lookup-typed-under-determined : (κs : Lfts 2) (a : Dens κs lookup-typed-under-kinds.ps) → Determined (lookup-typed-under-reads.Post κs a)
+fringewell-lookup-typed-under-determined κs a r₁ r₂ s₁ s₂ p q = p ∙ sym q
 
 pub fringewell-step-determined : (κs : Lfts 1) (a : Dens κs step-kinds.ps) → Determined (step-reads.Post κs a)
 fringewell-step-determined κs a r₁ r₂ s₁ s₂ p q = p ∙ sym q
 
+pub fringewell-step-under-determined : (κs : Lfts 1) (a : Dens κs step-under-kinds.ps) → Determined (step-under-reads.Post κs a)
+fringewell-step-under-determined κs a r₁ r₂ s₁ s₂ p q = p ∙ sym q
+
 pub fringewell-read-determined : (κs : Lfts 1) (a : Dens κs read-kinds.ps) → Determined (read-reads.Post κs a)
 fringewell-read-determined κs a r₁ r₂ s₁ s₂ p q = p ∙ sym q
+
+pub fringewell-read-under-determined : (κs : Lfts 1) (a : Dens κs read-under-kinds.ps) → Determined (read-under-reads.Post κs a)
+fringewell-read-under-determined κs a r₁ r₂ s₁ s₂ p q = p ∙ sym q
 
 pub fringewell-value-of-determined : (κs : Lfts 1) (a : Dens κs value-of-kinds.ps) → Determined (value-of-reads.Post κs a)
 fringewell-value-of-determined κs a r₁ r₂ s₁ s₂ p q = p ∙ sym q

@@ -1,3 +1,4 @@
+mod Limits
 pub mod Through
 pub mod NoWeaker
 pub mod ReadOnce

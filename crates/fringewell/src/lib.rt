@@ -2,15 +2,16 @@
 // what it is named for; what it answers in numbers is in `numbers`, and include/fringewell.h says it to C.
 ghost use mathlib.Core.Path.{_≡_};
 ghost use mathlib.Core.Bool.{true, false};
-ghost use Rattle.bson.specs.Check.{check};
+ghost use Rattle.bson.specs.Check.{checkUnder, check};
+ghost use Rattle.bson.specs.Cstring.{most};
 ghost use Rattle.bson.specs.Grammar as grammar;
-ghost use Rattle.bson.specs.Lookup.{get, getWith, isEmpty};
+ghost use Rattle.bson.specs.Lookup.{getUnder, getWithUnder, get, getWith, isEmpty};
 ghost use Rattle.bson.specs.Step.{cursor};
 ghost use Rattle.bson.specs.Value as value;
 ghost use Rattle.bson.specs.Writer as writer;
 ghost use Rattle.numbers.specs.Numbers.{verdict, emptiness, found, valueRead};
 ghost use Rattle.fringewell.specs.Given.{given};
-ghost use Rattle.fringewell.specs.Left.{steps, left, joins, leaves, performs};
+ghost use Rattle.fringewell.specs.Left.{stepsUnder, steps, left, joins, leaves, performs};
 use iter::Cursor;
 use iter::Element;
 use numbers::FoundNumbers;
@@ -29,12 +30,28 @@ pub extern "C" fn fringewell_check(document: &[u8]) -> VerdictNumbers
     numbers::of_verdict(whole::check(document))
 }
 
+// The plain check, under a limit on keys, patterns and options.
+#[no_mangle]
+pub extern "C" fn fringewell_check_under(document: &[u8], limit: usize) -> VerdictNumbers
+    ensures { λ r. ⌜ r ≡ verdict (checkUnder (most limit) false (now (document .entry))) ⌝ }
+{
+    numbers::of_verdict(whole::check_under(document, cstr::most_of(limit)))
+}
+
 // The strict check.
 #[no_mangle]
 pub extern "C" fn fringewell_check_strict(document: &[u8]) -> VerdictNumbers
     ensures { λ r. ⌜ r ≡ verdict (check true (now (document .entry))) ⌝ }
 {
     numbers::of_verdict(whole::check_strict(document))
+}
+
+// The strict check, under a limit.
+#[no_mangle]
+pub extern "C" fn fringewell_check_strict_under(document: &[u8], limit: usize) -> VerdictNumbers
+    ensures { λ r. ⌜ r ≡ verdict (checkUnder (most limit) true (now (document .entry))) ⌝ }
+{
+    numbers::of_verdict(whole::check_strict_under(document, cstr::most_of(limit)))
 }
 
 // Admission, and whether the document has no element.
@@ -53,12 +70,33 @@ pub extern "C" fn fringewell_lookup(document: &[u8], key: &[u8]) -> FoundNumbers
     numbers::of_found(document::get_element(document, key))
 }
 
+// The first element of a key, under a limit.
+#[no_mangle]
+pub extern "C" fn fringewell_lookup_under(document: &[u8], key: &[u8], limit: usize) -> FoundNumbers
+    ensures { λ r. ⌜ r ≡ found (getUnder (most limit) (now (document .entry)) (now (key .entry))) ⌝ }
+{
+    numbers::of_found(document::get_element_under(document, key, cstr::most_of(limit)))
+}
+
 // The first element of a key, whose value must have this tag.
 #[no_mangle]
 pub extern "C" fn fringewell_lookup_typed(document: &[u8], key: &[u8], tag: u8) -> FoundNumbers
     ensures { λ r. ⌜ r ≡ found (getWith (now (document .entry)) (now (key .entry)) tag) ⌝ }
 {
     numbers::of_found(document::get_with(document, key, tag))
+}
+
+// The first element of a key, whose value must have this tag, under a limit.
+#[no_mangle]
+pub extern "C" fn fringewell_lookup_typed_under(
+    document: &[u8],
+    key: &[u8],
+    tag: u8,
+    limit: usize,
+) -> FoundNumbers
+    ensures { λ r. ⌜ r ≡ found (getWithUnder (most limit) (now (document .entry)) (now (key .entry)) tag) ⌝ }
+{
+    numbers::of_found(document::get_with_under(document, key, tag, cstr::most_of(limit)))
 }
 
 // The step at a cursor, and the cursor behind it.
@@ -69,12 +107,34 @@ pub extern "C" fn fringewell_step(document: &[u8], offset: usize, ended: bool) -
     numbers::of_step(iter::next(document, Cursor { offset, ended }))
 }
 
+// The step at a cursor, under a limit.
+#[no_mangle]
+pub extern "C" fn fringewell_step_under(
+    document: &[u8],
+    offset: usize,
+    ended: bool,
+    limit: usize,
+) -> StepNumbers
+    ensures { λ r. ⌜ r ≡ stepsUnder (most limit) (now (document .entry)) (cursor offset ended) ⌝ }
+{
+    let most = cstr::most_of(limit);
+    numbers::of_step(iter::next_under(document, Cursor { offset, ended }, most))
+}
+
 // The value of the element at a place.
 #[no_mangle]
 pub extern "C" fn fringewell_read(document: &[u8], place: usize) -> ValueNumbers
     ensures { λ r. ⌜ r ≡ valueRead (value.readAt (now (document .entry)) place) ⌝ }
 {
     numbers::of_reading(reading::read_at(document, place))
+}
+
+// The value of the element at a place, under a limit.
+#[no_mangle]
+pub extern "C" fn fringewell_read_under(document: &[u8], place: usize, limit: usize) -> ValueNumbers
+    ensures { λ r. ⌜ r ≡ valueRead (value.readAtUnder (most limit) (now (document .entry)) place) ⌝ }
+{
+    numbers::of_reading(reading::read_at_under(document, place, cstr::most_of(limit)))
 }
 
 // The value of an element that a step gave, by its place, its tag and where its framed value lies: no second step.

@@ -1,0 +1,45 @@
+-- What a call answers under the number that is passed for a limit is what it answers under the limit (document 02, request 2). Assumes nothing.
+use Prim.Native.Nat.{ℕ, _≤_, _<_}
+use mathlib.Core.Path.{_≡_, ap, _∙_}
+use mathlib.Core.List.{List}
+use mathlib.Core.Bool.{Bool}
+use native.Mathlib.Omega.{arith}
+use lib.Dec.{eqb}
+use lib.ListN.{length}
+use borrow.Author.Tests.{eqb-true}
+use Rattle.bson.specs.Answer.{Answer}
+use Rattle.bson.specs.Cstring.{Limit, most}
+use Rattle.bson.specs.Step.{Cursor, Step, after}
+use Rattle.bson.specs.Value.{readAtUnder}
+use Rattle.bson.specs.Lookup.{getUnder, getWithUnder}
+use Rattle.bson.specs.Check.{checkUnder}
+use Rattle.laws.proofs.Common.{split}
+use Rattle.laws.proofs.LimitLaws.{step-beyond, read-beyond, get-beyond, get-with-beyond, check-beyond}
+use Rattle.cstr.specs.Said.{limitOf, capped}
+use Rattle.cstr.proofs.Limits.{capped-says}
+use Rattle.numbers.specs.Numbers.{stepped}
+use Rattle.fringewell.specs.Left.{stepsUnder}
+
+-- of a slice that has fewer bytes than the largest number
+module _ (m n : ℕ) (is : m ≡ capped n) (s : List ℕ) (short : length s < 0xFFFF_FFFF_FFFF_FFFF) where
+  passed : {A : Type 0} (f : Limit → A) → ((k : ℕ) → length s ≤ k → length s ≤ n → f (most k) ≡ f (most n)) → f (limitOf m) ≡ f (most n)
+  passed f beyond =
+      ap (λ (k : ℕ). f (limitOf k)) is ∙ ap f (capped-says n) ∙ split (eqb n 0xFFFF_FFFF_FFFF_FFFF)
+      (λ t. rw t (beyond 0xFFFF_FFFF_FFFF_FFFE (omega arith) (omega (arith, eqb-true n 0xFFFF_FFFF_FFFF_FFFF t))))
+      (λ t. rw t)
+
+  pub check-passed : (strict : Bool) → checkUnder (limitOf m) strict s ≡ checkUnder (most n) strict s
+  check-passed strict = passed (λ (l : Limit). checkUnder l strict s) (λ k i j. check-beyond k n s i j strict)
+
+  pub lookup-passed : (key : List ℕ) → getUnder (limitOf m) s key ≡ getUnder (most n) s key
+  lookup-passed key = passed (λ (l : Limit). getUnder l s key) (λ k i j. get-beyond k n s i j key)
+
+  pub lookup-typed-passed : (key : List ℕ) (tag : ℕ) → getWithUnder (limitOf m) s key tag ≡ getWithUnder (most n) s key tag
+  lookup-typed-passed key tag = passed (λ (l : Limit). getWithUnder l s key tag) (λ k i j. get-with-beyond k n s i j key tag)
+
+  pub step-passed : (c : Cursor) → stepsUnder (limitOf m) s c ≡ stepsUnder (most n) s c
+  step-passed c =
+      passed (λ (l : Limit). stepsUnder l s c) (λ k i j. ap (λ (x : Answer Step). stepped x (after c x)) (step-beyond k n s i j c))
+
+  pub read-passed : (place : ℕ) → readAtUnder (limitOf m) s place ≡ readAtUnder (most n) s place
+  read-passed place = passed (λ (l : Limit). readAtUnder l s place) (λ k i j. read-beyond k n s i j place)
