@@ -41,6 +41,53 @@ static inline void expect_equal_at(uint64_t got, uint64_t want, const char *what
         EXPECT_EQUAL(verdict.count, (count_));          \
     } while (0)
 
+#define EXPECT_FOUND(call, place_, tag_, offset_, size_) \
+    do {                                                 \
+        fringewell_found found = (call);                 \
+        EXPECT_EQUAL(found.number, 0);                   \
+        EXPECT_EQUAL(found.place, (place_));             \
+        EXPECT_EQUAL(found.tag, (tag_));                 \
+        EXPECT_EQUAL(found.offset, (offset_));           \
+        EXPECT_EQUAL(found.size, (size_));               \
+    } while (0)
+
+#define EXPECT_UNFOUND(call, number_, place_)            \
+    do {                                                 \
+        fringewell_found found = (call);                 \
+        EXPECT_EQUAL(found.number, (number_));           \
+        EXPECT_EQUAL(found.place, (place_));             \
+        EXPECT_EQUAL(found.tag, 0);                      \
+        EXPECT_EQUAL(found.offset, 0);                   \
+        EXPECT_EQUAL(found.size, 0);                     \
+    } while (0)
+
+#define EXPECT_NO_ELEMENT(call, number_, place_, next_) \
+    do {                                                \
+        fringewell_stepped stepped = (call);            \
+        EXPECT_EQUAL(stepped.number, (number_));        \
+        EXPECT_EQUAL(stepped.place, (place_));          \
+        EXPECT_EQUAL(stepped.ended, 1);                 \
+        EXPECT_EQUAL(stepped.next, (next_));            \
+        EXPECT_EQUAL(stepped.tag, 0);                   \
+        EXPECT_EQUAL(stepped.key_offset, 0);            \
+        EXPECT_EQUAL(stepped.key_size, 0);              \
+        EXPECT_EQUAL(stepped.offset, 0);                \
+        EXPECT_EQUAL(stepped.size, 0);                  \
+    } while (0)
+
+#define EXPECT_UNREAD(call, number_, place_)     \
+    do {                                         \
+        fringewell_value value = (call);         \
+        EXPECT_EQUAL(value.number, (number_));   \
+        EXPECT_EQUAL(value.place, (place_));     \
+        EXPECT_EQUAL(value.tag, 0);              \
+        EXPECT_EQUAL(value.bits, 0);             \
+        EXPECT_EQUAL(value.offset, 0);           \
+        EXPECT_EQUAL(value.size, 0);             \
+        EXPECT_EQUAL(value.offset2, 0);          \
+        EXPECT_EQUAL(value.size2, 0);            \
+    } while (0)
+
 #define EXPECT_WRITTEN(call, number_, used_)            \
     do {                                                \
         fringewell_written written = (call);            \

@@ -2,26 +2,6 @@
 #include "samples.h"
 #include "test.h"
 
-#define EXPECT_FOUND(call, place_, tag_, offset_, size_) \
-    do {                                                 \
-        fringewell_found found = (call);                 \
-        EXPECT_EQUAL(found.number, 0);                   \
-        EXPECT_EQUAL(found.place, (place_));             \
-        EXPECT_EQUAL(found.tag, (tag_));                 \
-        EXPECT_EQUAL(found.offset, (offset_));           \
-        EXPECT_EQUAL(found.size, (size_));               \
-    } while (0)
-
-#define EXPECT_UNFOUND(call, number_, place_)            \
-    do {                                                 \
-        fringewell_found found = (call);                 \
-        EXPECT_EQUAL(found.number, (number_));           \
-        EXPECT_EQUAL(found.place, (place_));             \
-        EXPECT_EQUAL(found.tag, 0);                      \
-        EXPECT_EQUAL(found.offset, 0);                   \
-        EXPECT_EQUAL(found.size, 0);                     \
-    } while (0)
-
 /* {ab: null, a: true, x: a boolean of 2, b: null} */
 static const uint8_t marked[20] = {20, 0, 0, 0, 0x0A, 'a', 'b', 0, 0x08, 'a', 0, 1, 0x08, 'x', 0, 2, 0x0A, 'b', 0, 0};
 

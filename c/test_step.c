@@ -30,20 +30,6 @@ static const struct {
     {217, FRINGEWELL_TAG_MAX_KEY, 220, 0, 0, 0, 0, 0, 0},
 };
 
-#define EXPECT_NO_ELEMENT(call, number_, place_, next_) \
-    do {                                                \
-        fringewell_stepped stepped = (call);            \
-        EXPECT_EQUAL(stepped.number, (number_));        \
-        EXPECT_EQUAL(stepped.place, (place_));          \
-        EXPECT_EQUAL(stepped.ended, 1);                 \
-        EXPECT_EQUAL(stepped.next, (next_));            \
-        EXPECT_EQUAL(stepped.tag, 0);                   \
-        EXPECT_EQUAL(stepped.key_offset, 0);            \
-        EXPECT_EQUAL(stepped.key_size, 0);              \
-        EXPECT_EQUAL(stepped.offset, 0);                \
-        EXPECT_EQUAL(stepped.size, 0);                  \
-    } while (0)
-
 /* From 4 to the end, each step from where the last one ended. */
 static void every_element(void) {
     uint64_t next = 4, ended = 0;
@@ -117,19 +103,6 @@ static void other_values(void) {
     EXPECT_EQUAL(none.offset, 11); /* the data are empty, behind the subtype */
     EXPECT_EQUAL(none.size, 0);
 }
-
-#define EXPECT_UNREAD(call, number_, place_)     \
-    do {                                         \
-        fringewell_value value = (call);         \
-        EXPECT_EQUAL(value.number, (number_));   \
-        EXPECT_EQUAL(value.place, (place_));     \
-        EXPECT_EQUAL(value.tag, 0);              \
-        EXPECT_EQUAL(value.bits, 0);             \
-        EXPECT_EQUAL(value.offset, 0);           \
-        EXPECT_EQUAL(value.size, 0);             \
-        EXPECT_EQUAL(value.offset2, 0);          \
-        EXPECT_EQUAL(value.size2, 0);            \
-    } while (0)
 
 static void unread(void) {
     EXPECT_UNREAD(fringewell_read(NOTHING, 4), FRINGEWELL_TOO_SHORT, 0);
