@@ -95,6 +95,16 @@ static inline void expect_equal_at(uint64_t got, uint64_t want, const char *what
         EXPECT_EQUAL(written.used, (used_));            \
     } while (0)
 
+/* Every call under a limit, of a document whose first step is refused: by this number, at 4. */
+static inline void refused_under(const uint8_t *document, size_t length, size_t limit, uint64_t number) {
+    EXPECT_VERDICT(fringewell_check_under(document, length, limit), number, 4, 0);
+    EXPECT_VERDICT(fringewell_check_strict_under(document, length, limit), number, 4, 0);
+    EXPECT_UNFOUND(fringewell_lookup_under(document, length, TEXT("q"), limit), number, 4);
+    EXPECT_UNFOUND(fringewell_lookup_typed_under(document, length, TEXT("q"), FRINGEWELL_TAG_NULL, limit), number, 4);
+    EXPECT_NO_ELEMENT(fringewell_step_under(document, length, 4, false, limit), number, 4, 4);
+    EXPECT_UNREAD(fringewell_read_under(document, length, 4, limit), number, 4);
+}
+
 /* Lent buffers are filled with this, to see that what is not written stays. */
 enum { GUARD = 0xA5 };
 

@@ -6,12 +6,13 @@
 #include <sys/mman.h>
 #include <unistd.h>
 
-/* The end of a page that can be written, with one behind it that cannot be touched. */
+static size_t page_size;
+
+/* The end of a page that can be written, with one behind it that cannot be touched, and then one of zeros. */
 static uint8_t *page_end(void) {
-    size_t size = (size_t)sysconf(_SC_PAGESIZE);
-    uint8_t *pages = mmap(NULL, 2 * size, PROT_READ | PROT_WRITE, MAP_PRIVATE | MAP_ANONYMOUS, -1, 0);
-    bool made = pages != MAP_FAILED && mprotect(pages + size, size, PROT_NONE) == 0;
-    return made ? pages + size : NULL;
+    uint8_t *pages = mmap(NULL, 3 * page_size, PROT_READ | PROT_WRITE, MAP_PRIVATE | MAP_ANONYMOUS, -1, 0);
+    bool made = pages != MAP_FAILED && mprotect(pages + page_size, page_size, PROT_NONE) == 0;
+    return made ? pages + page_size : NULL;
 }
 
 static uint8_t *document_end, *out_end, *key_end;
@@ -22,6 +23,40 @@ static bool read_once(const uint8_t *document, size_t length, fringewell_stepped
     return at.ended == 1 || memcmp(&value, &there, sizeof value) == 0;
 }
 
+static const size_t limits[] = {0, 1, 2, SIZE_MAX};
+enum { LIMITS = sizeof limits / sizeof *limits };
+
+/* The check under each limit answers as without one, or 22: for 5 always, and else only where the document is longer than the limit. */
+static bool checked_under(const uint8_t *document, size_t length, fringewell_verdict plain) {
+    bool good = true, no_zero = plain.number == FRINGEWELL_NO_ZERO;
+    for (int i = 0; i < LIMITS; i++) {
+        fringewell_verdict verdict = fringewell_check_under(document, length, limits[i]);
+        bool same = !no_zero && memcmp(&verdict, &plain, sizeof plain) == 0;
+        good = good && (same || (verdict.number == FRINGEWELL_TOO_LONG && (no_zero || limits[i] < length)));
+        fringewell_check_strict_under(document, length, limits[i]);
+        fringewell_lookup_under(document, length, key_end - 1, 1, limits[i]);
+        fringewell_lookup_typed_under(document, length, key_end - 1, 1, FRINGEWELL_TAG_MAX_KEY, limits[i]);
+    }
+    return good;
+}
+
+/* So do step and reading under a limit: 22 for 5, and for an element with a longer key, pattern or options. Where the step is refused by
+ * 6 to 10, a text that it met may be longer. */
+static bool stepped_under(const uint8_t *document, size_t length, size_t place, size_t limit, fringewell_stepped at,
+                          fringewell_value there) {
+    const fringewell_stepped no_step = {.number = FRINGEWELL_TOO_LONG, .place = place, .ended = 1, .next = place};
+    const fringewell_value no_value = {.number = FRINGEWELL_TOO_LONG, .place = place};
+    bool longer = at.number == FRINGEWELL_NO_ZERO || at.key_size > limit ||
+                  (at.tag == FRINGEWELL_TAG_REGEX && (there.size > limit || there.size2 > limit));
+    bool perhaps = at.number >= FRINGEWELL_NOT_UTF8 && limit < length;
+    fringewell_stepped stepped = fringewell_step_under(document, length, place, false, limit);
+    fringewell_value value = fringewell_read_under(document, length, place, limit);
+    if (longer || (perhaps && stepped.number == FRINGEWELL_TOO_LONG)) {
+        return memcmp(&stepped, &no_step, sizeof stepped) == 0 && memcmp(&value, &no_value, sizeof value) == 0;
+    }
+    return memcmp(&stepped, &at, sizeof stepped) == 0 && memcmp(&value, &there, sizeof value) == 0;
+}
+
 /* Every call that reads, at every place: the parts that are given lie in the document; and joining with the empty document, which refuses
  * as the check does and else gives it back. */
 static bool answers(const uint8_t *document, size_t length) {
@@ -29,7 +64,7 @@ static bool answers(const uint8_t *document, size_t length) {
     fringewell_verdict verdict = fringewell_check(document, length);
     fringewell_joined joined = fringewell_join(document, length, empty, sizeof empty, out_end - length, length);
     bool good = joined.number == verdict.number && joined.place == verdict.place && joined.which == (verdict.number != 0) &&
-                (verdict.number != 0 || memcmp(document, out_end - length, length) == 0);
+                (verdict.number != 0 || memcmp(document, out_end - length, length) == 0) && checked_under(document, length, verdict);
     fringewell_check_strict(document, length);
     fringewell_is_empty(document, length);
     fringewell_lookup(document, length, key_end - 1, 1);
@@ -38,6 +73,9 @@ static bool answers(const uint8_t *document, size_t length) {
         fringewell_value value = fringewell_read(document, length, place);
         good = good && stepped.offset + stepped.size <= length && stepped.key_offset + stepped.key_size <= length &&
                value.offset + value.size <= length && value.offset2 + value.size2 <= length && read_once(document, length, stepped, value);
+        for (int i = 0; i < LIMITS; i++) {
+            good = good && stepped_under(document, length, place, limits[i], stepped, value);
+        }
     }
     return good;
 }
@@ -59,6 +97,17 @@ static void damage(size_t at, uint8_t byte) {
     memcpy(document, every_type, sizeof every_type);
     document[at] = byte;
     EXPECT(answers(document, sizeof every_type));
+}
+
+/* A text longer than the limit, behind the front of its element: only so many of its bytes as the limit and one more lie in front of the
+ * page that cannot be touched, and the document ends behind that page. */
+static void first_bytes(size_t limit, const uint8_t *front, size_t front_size) {
+    size_t seen = 4 + front_size + limit + 1, length = seen + page_size + 1;
+    uint8_t *document = document_end - seen;
+    put32(document, length);
+    memcpy(document + 4, front, front_size);
+    memset(document + 4 + front_size, 'x', limit + 1);
+    refused_under(document, length, limit, FRINGEWELL_TOO_LONG);
 }
 
 /* A value that no step gave, of the last bytes: its parts lie in the document, or are empty. With one byte more it runs past the end. */
@@ -97,6 +146,7 @@ static void write_in(size_t room) {
 
 int main(void) {
     static const uint8_t bytes[] = {0, 1, 5, 0x7F, 0x80, 0xFF};
+    page_size = (size_t)sysconf(_SC_PAGESIZE);
     document_end = page_end();
     out_end = page_end();
     key_end = page_end();
@@ -111,6 +161,11 @@ int main(void) {
     }
     for (unsigned tag = 0; tag <= UINT8_MAX; tag++) {
         owns((uint8_t)tag);
+    }
+    for (size_t limit = 0; limit < 64; limit++) {
+        first_bytes(limit, BYTES(0x0A));       /* the key */
+        first_bytes(limit, BYTES(0x0B, 0));    /* the pattern, under an empty key */
+        first_bytes(limit, BYTES(0x0B, 0, 0)); /* the options, behind an empty pattern */
     }
     for (size_t at = 0; at < sizeof every_type; at++) {
         for (size_t i = 0; i < sizeof bytes; i++) {

@@ -58,6 +58,17 @@ static void strict(const uint8_t *document, size_t length) {
     fringewell_check_strict(document, length);
 }
 
+/* No key, pattern or options of the documents below is longer, and some are as long. */
+enum { LIMIT = 2 };
+
+static void limited(const uint8_t *document, size_t length) {
+    fringewell_check_under(document, length, LIMIT);
+}
+
+static void strict_limited(const uint8_t *document, size_t length) {
+    fringewell_check_strict_under(document, length, LIMIT);
+}
+
 static void joining(const uint8_t *document, size_t length) {
     static uint8_t out[8192];
     fringewell_join(document, length, document, length, out, sizeof out);
@@ -71,19 +82,30 @@ static void others(const uint8_t *document, size_t length) {
     fringewell_writer_open(&writer, out, sizeof out);
     fringewell_append_regex(&writer, out, sizeof out, TEXT("\xC3\xA9"), TEXT("\xC3\xA9"), TEXT("\xC3\xA9"));
     fringewell_lookup_typed(document, length, TEXT("absent"), FRINGEWELL_TAG_INT32);
+    fringewell_lookup_typed_under(document, length, TEXT("absent"), FRINGEWELL_TAG_INT32, LIMIT);
     fringewell_read(document, length, 4);
+    fringewell_read_under(document, length, 4, LIMIT);
 }
+
+static const struct {
+    const char *name;
+    void (*call)(const uint8_t *document, size_t length);
+} calls[] = {
+    {"plain check", plain}, {"strict check", strict}, {"plain under a limit", limited}, {"strict under a limit", strict_limited},
+    {"join", joining},      {"others", others},
+};
 
 static size_t most;
 
 static void try_all(const char *name, const uint8_t *document, size_t length) {
-    size_t taken[4] = {measure(plain, document, length), measure(strict, document, length), measure(joining, document, length),
-                       measure(others, document, length)};
-    printf("%-9s: plain check %zu, strict check %zu, join %zu, others %zu bytes\n", name, taken[0], taken[1], taken[2], taken[3]);
-    for (int i = 0; i < 4; i++) {
-        EXPECT(taken[i] > 0 && taken[i] <= FRINGEWELL_STACK_BYTES);
-        most = taken[i] > most ? taken[i] : most;
+    printf("%-9s:", name);
+    for (size_t i = 0; i < sizeof calls / sizeof *calls; i++) {
+        size_t taken = measure(calls[i].call, document, length);
+        printf("%s %s %zu", i > 0 ? "," : "", calls[i].name, taken);
+        EXPECT(taken > 0 && taken <= FRINGEWELL_STACK_BYTES);
+        most = taken > most ? taken : most;
     }
+    printf(" bytes\n");
 }
 
 /* 201 documents or arrays inside the top, or 101 scopes; and in the innermost of 201 documents what takes the longest way through its
