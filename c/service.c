@@ -1,12 +1,12 @@
-/* A ground station's service: takes one frame from standard input, checks it, looks up its battery, and joins the receiver's own fields
- * behind it. Exit status: 0 the frame is shown, 1 it is refused, 2 it could not be read or joined. */
+/* A ground station's service: takes one frame from standard input, checks it under a limit on key length, looks up its battery, and joins the
+ * receiver's own fields behind it. Exit status: 0 the frame is shown, 1 it is refused, 2 it could not be read or joined. */
 #include <fringewell.h>
 #include <inttypes.h>
 #include <stdio.h>
 
 #define TEXT(text) (const uint8_t *)(text), sizeof(text) - 1
 
-enum { LIMIT = 65535, FIELDS = 64 };
+enum { LONGEST_FRAME = 65535, LONGEST_KEY = 64, FIELDS = 64 };
 
 static int refused(uint64_t number, uint64_t place) {
     printf("refused: %" PRIu64 " at %" PRIu64 ", nothing is shown\n", number, place);
@@ -52,16 +52,17 @@ static void show_fields(const uint8_t *document, size_t length, size_t from) {
 }
 
 int main(void) {
-    static uint8_t frame[LIMIT + 1], fields[FIELDS], out[LIMIT + FIELDS];
+    static uint8_t frame[LONGEST_FRAME + 1], fields[FIELDS], out[LONGEST_FRAME + FIELDS];
     size_t length = fread(frame, 1, sizeof frame, stdin);
     if (ferror(stdin)) {
         printf("unread, nothing is shown\n");
         return 2;
     }
-    if (length > LIMIT) {
+    if (length > LONGEST_FRAME) {
         return refused(FRINGEWELL_INPUT_TOO_LONG, 0);
     }
-    fringewell_verdict checked = fringewell_check(frame, length);
+    /* a damaged frame may have keys of thousands of bytes */
+    fringewell_verdict checked = fringewell_check_under(frame, length, LONGEST_KEY);
     if (checked.number != FRINGEWELL_OK) {
         return refused(checked.number, checked.place);
     }
