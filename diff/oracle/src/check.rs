@@ -2,7 +2,7 @@
 
 use bson::{Document, RawBsonRef, RawDocument, Utf8Lossy};
 
-use crate::step::{kind, Kind, Refusal, Steps};
+use crate::step::{kind, Kind, Limit, Refusal, Steps};
 use crate::value::Reading;
 
 const MAX_DEPTH: u32 = 200;
@@ -17,6 +17,8 @@ pub enum Keys {
 pub struct Walk<'a> {
     outer: &'a [u8],
     keys: Keys,
+    /// The same at every level.
+    limit: Limit,
     pub verdict: Result<(), Refusal>,
     pub count: usize,
     /// A value was met that only a stand-in accepted or refused.
@@ -25,10 +27,11 @@ pub struct Walk<'a> {
     pub differs: bool,
 }
 
-pub fn walk(doc: &RawDocument, keys: Keys) -> Walk<'_> {
+pub fn walk(doc: &RawDocument, keys: Keys, limit: Limit) -> Walk<'_> {
     let mut walk = Walk {
         outer: doc.as_bytes(),
         keys,
+        limit,
         verdict: Ok(()),
         count: 0,
         judged: false,
@@ -41,7 +44,7 @@ pub fn walk(doc: &RawDocument, keys: Keys) -> Walk<'_> {
 impl<'a> Walk<'a> {
     /// The values of a document, which have this depth, and those inside them.
     fn inside(&mut self, doc: &'a RawDocument, keys: Keys, depth: u32) -> Result<(), Refusal> {
-        for step in Steps::new(self.outer, doc) {
+        for step in Steps::new(self.outer, doc, self.limit) {
             let element = step?;
             if keys == Keys::Digits && !is_digits(element.raw.key().as_str()) {
                 return Err(Refusal("added", element.place));
@@ -67,13 +70,14 @@ impl<'a> Walk<'a> {
     }
 
     /// The verdict of the Rust's own walk, where it is another.
-    /// That walk refuses no text, so a refusal as UTF-8 is not compared.
+    /// That walk refuses no text and has no limit, so a refusal as UTF-8 or as too long is not compared.
     pub fn deep_differs(&self, doc: &RawDocument) -> Option<Kind> {
         let word = |refused: Option<Kind>| refused.unwrap_or("accepted");
         let ours = word(self.verdict.as_ref().err().map(|refusal| refusal.0));
         let deep = Utf8Lossy::<Document>::try_from(doc);
         let deep = word(deep.err().map(|error| kind(&error)));
-        (ours != "utf8" && ours != deep).then_some(deep)
+        let compared = !["utf8", "too-long"].contains(&ours);
+        (compared && ours != deep).then_some(deep)
     }
 }
 

@@ -13,20 +13,23 @@ use bson::RawDocument;
 
 use check::Keys;
 use lookup::Question;
-use step::{kind, Element, Refusal, Steps};
+use step::{kind, Element, Limit, Refusal, Steps};
 use value::{starred, Content, Reading};
 
 /// The answer line to a case line `document HEX; get KEY; typed KEY TAG; ..`, or what is wrong with the case.
+/// Behind `limited M` in front of it every answer is one under the limit M.
 /// Where the Rust panics the line ends with `panicked`; the message is the caller's to silence.
 pub fn answer(case: &str) -> Result<String, String> {
     let mut parts = case.split("; ");
-    let document = parts.next().unwrap_or("");
+    let head = parts.next().unwrap_or("");
+    let (limit, document) = limited(head)?;
     let hex = document.strip_prefix("document ");
-    let bytes = bytes(hex.ok_or("a case begins with `document HEX`")?)?;
+    let bytes = bytes(hex.ok_or("a case begins with `document HEX` or `limited M document HEX`")?)?;
     let questions = parts.map(Question::read).collect::<Result<Vec<_>, _>>()?;
 
     let mut line = Line {
-        parts: vec![document.into()],
+        limit,
+        parts: vec![head.into()],
         notes: Vec::new(),
     };
     let filled = catch_unwind(AssertUnwindSafe(|| line.fill(&bytes, &questions)));
@@ -37,12 +40,25 @@ pub fn answer(case: &str) -> Result<String, String> {
     Ok(line.parts.join("; "))
 }
 
+/// The limit in front of a case's first part, and the rest of that part.
+fn limited(head: &str) -> Result<(Limit, &str), String> {
+    let Some(behind) = head.strip_prefix("limited ") else {
+        return Ok((None, head));
+    };
+    let (field, document) = behind.split_once(' ').unwrap_or((behind, ""));
+    let most = field
+        .parse()
+        .map_err(|error| format!("`{field}`: {error}"))?;
+    Ok((Some(most), document))
+}
+
 fn bytes(field: &str) -> Result<Vec<u8>, String> {
     hex::decode(field).map_err(|error| format!("`{field}`: {error}"))
 }
 
 /// The parts of an answer line, and the notes behind them where the Rust disagrees with itself or with a stand-in.
 struct Line {
+    limit: Limit,
     parts: Vec<String>,
     notes: Vec<String>,
 }
@@ -59,7 +75,7 @@ impl Line {
         self.push("strict", "*");
         self.push("empty", if doc.is_empty() { "yes" } else { "no" });
         for question in questions {
-            self.push(question.part, question.ask(doc));
+            self.push(question.part, question.ask(doc, self.limit));
         }
     }
 
@@ -75,7 +91,7 @@ impl Line {
     }
 
     fn steps(&mut self, doc: &RawDocument) {
-        let mut steps = Steps::new(doc.as_bytes(), doc);
+        let mut steps = Steps::new(doc.as_bytes(), doc, self.limit);
         let last = loop {
             match steps.next() {
                 Some(Ok(element)) => self.element(&element),
@@ -106,7 +122,7 @@ impl Line {
     }
 
     fn check(&mut self, doc: &RawDocument) {
-        let walk = check::walk(doc, Keys::Any);
+        let walk = check::walk(doc, Keys::Any, self.limit);
         let verdict = match &walk.verdict {
             Ok(()) => walk.count.to_string(),
             Err(refusal) => refusal.to_string(),

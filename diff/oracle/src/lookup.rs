@@ -1,10 +1,10 @@
-//! Lookups by the Rust's `get` and its twelve typed getters.
+//! Lookups by the Rust's `get` and its twelve typed getters, and by its `get` under a limit.
 
 use bson::{error::Result as RawResult, spec::ElementType as Type};
 use bson::{RawBsonRef as Value, RawDocument};
 
 use crate::bytes;
-use crate::step::{kind, Element, Kind, Refusal, Steps};
+use crate::step::{kind, Element, Kind, Limit, Refusal, Steps};
 use crate::value::{starred, Content, Reading};
 
 /// A part `get KEY`, or `typed KEY TAG` where there is a tag.
@@ -27,17 +27,19 @@ impl<'c> Question<'c> {
     }
 
     /// The answer, which is a mere star where the Rust has no such call.
-    pub fn ask(&self, doc: &RawDocument) -> String {
+    pub fn ask(&self, doc: &RawDocument, limit: Limit) -> String {
         let key = std::str::from_utf8(&self.key).ok();
-        let Some(answer) = key.and_then(|key| call(doc, key, self.tag)) else {
+        let Some(answer) = key.and_then(|key| call(doc, key, self.tag, limit)) else {
             return "*".into();
         };
-        let (place, found) = find(doc, &self.key);
+        let (place, found) = find(doc, &self.key, limit);
         let reading = found.as_ref().map(Reading::of);
-        let star = reading.is_some_and(|reading| match answer {
+        let held = reading.is_some_and(|reading| match answer {
             Err("unexpected-type") => reading.judged,
             _ => reading.starred,
         });
+        // The Rust has no typed getter under a limit.
+        let lent = self.tag.is_some() && limit.is_some();
         let answer = match answer {
             Ok(value) => {
                 let element = found.expect("a lookup answers what iteration yields");
@@ -45,7 +47,7 @@ impl<'c> Question<'c> {
             }
             Err(kind) => Refusal(kind, place).to_string(),
         };
-        starred(answer, star)
+        starred(answer, held || lent)
     }
 }
 
@@ -54,15 +56,34 @@ pub fn call<'a>(
     doc: &'a RawDocument,
     key: &str,
     tag: Option<u8>,
+    limit: Limit,
 ) -> Option<Result<Value<'a>, Kind>> {
-    let answer = match tag {
-        Some(tag) => typed(doc, key, tag)?.map(Some),
-        None => doc.get(key),
+    let answer = match (tag, limit) {
+        (None, None) => doc.get(key),
+        (None, Some(most)) => doc.get_with_max_cstr_parse_len(key, most),
+        (Some(tag), None) => typed(doc, key, tag)?.map(Some),
+        (Some(tag), Some(_)) => return typed_under(doc, key, tag, limit),
     };
     Some(match answer {
         Ok(found) => found.ok_or("not-present"),
         Err(error) => Err(kind(&error)),
     })
+}
+
+/// The stand-in for a getter under a limit, which the Rust does not have: its `get` under the limit, then the type.
+fn typed_under<'a>(
+    doc: &'a RawDocument,
+    key: &str,
+    tag: u8,
+    limit: Limit,
+) -> Option<Result<Value<'a>, Kind>> {
+    let found = call(doc, key, None, limit)?;
+    Some(
+        found.and_then(|value| match value.element_type() as u8 == tag {
+            true => Ok(value),
+            false => Err("unexpected-type"),
+        }),
+    )
 }
 
 fn typed<'a>(doc: &'a RawDocument, key: &str, tag: u8) -> Option<RawResult<Value<'a>>> {
@@ -83,9 +104,9 @@ fn typed<'a>(doc: &'a RawDocument, key: &str, tag: u8) -> Option<RawResult<Value
     })
 }
 
-/// The first element under the key and its place, or where iteration is refused or ends.
-pub fn find<'a>(doc: &'a RawDocument, key: &[u8]) -> (usize, Option<Element<'a>>) {
-    let mut steps = Steps::new(doc.as_bytes(), doc);
+/// The first element of the key and its place, or where iteration is refused or ends.
+pub fn find<'a>(doc: &'a RawDocument, key: &[u8], limit: Limit) -> (usize, Option<Element<'a>>) {
+    let mut steps = Steps::new(doc.as_bytes(), doc, limit);
     while let Some(Ok(element)) = steps.next() {
         if element.raw.key().as_str().as_bytes() == key {
             return (element.place, Some(element));

@@ -7,10 +7,14 @@ use bson::raw::{RawDocument, RawElement, RawIter};
 
 pub type Kind = &'static str;
 
+/// How many bytes a key, a pattern or options may have (`max_cstr_parse_len`), where there is a limit.
+pub type Limit = Option<usize>;
+
 pub fn kind(error: &Error) -> Kind {
     match &error.kind {
         ErrorKind::MalformedBytes { .. } => "malformed",
         ErrorKind::Utf8Encoding { .. } => "utf8",
+        ErrorKind::TooLongCStr { .. } => "too-long",
         ErrorKind::RecursionLimit { .. } => "recursion",
         ErrorKind::ValueAccess { kind, .. } => match kind {
             Access::NotPresent => "not-present",
@@ -47,7 +51,7 @@ pub struct Element<'a> {
     pub offset: usize,
 }
 
-/// The steps through a document inside the outermost one; the next begins at `at`.
+/// The steps through a document inside the outermost one, under a limit or none; the next begins at `at`.
 pub struct Steps<'a> {
     outer: &'a [u8],
     elements: RawIter<'a>,
@@ -55,10 +59,10 @@ pub struct Steps<'a> {
 }
 
 impl<'a> Steps<'a> {
-    pub fn new(outer: &'a [u8], doc: &'a RawDocument) -> Self {
+    pub fn new(outer: &'a [u8], doc: &'a RawDocument, limit: Limit) -> Self {
         Self {
             outer,
-            elements: doc.iter_elements(),
+            elements: doc.iter_elements().max_cstr_parse_len(limit),
             at: offset_in(outer, doc.as_bytes()) + 4,
         }
     }
