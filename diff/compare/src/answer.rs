@@ -4,19 +4,15 @@ use std::fmt;
 use std::ops::RangeInclusive;
 
 use bson::spec::ElementType;
-use oracle::step::Kind;
+use oracle::step::{Kind, Limit};
 use oracle::value::Content;
 
 use crate::library::{Found, Stepped, Value, Verdict};
 use crate::library_writer::Written;
 
-/// The numbers that mean malformed, by the call: one of another call's would be wrong too.
-pub type Malformed = RangeInclusive<u64>;
-pub const ADMISSION: Malformed = 1..=3;
-pub const STEP: Malformed = 4..=10;
-pub const READING: Malformed = 1..=12;
-
+const NO_ZERO: u64 = 5;
 const NOT_UTF8: u64 = 6;
+const TOO_LONG: u64 = 22;
 
 #[derive(Clone, Copy, Debug, PartialEq)]
 pub enum Answer {
@@ -60,43 +56,71 @@ pub struct Said {
     pub number: u64,
 }
 
-/// Document 01's table, its third column.
-fn kind(number: u64, malformed: Malformed) -> Kind {
-    match number {
-        NOT_UTF8 => "utf8",
-        13 => "recursion",
-        16 => "not-present",
-        17 => "unexpected-type",
-        19 => "added",
-        _ if malformed.contains(&number) => "malformed",
-        _ => "a number that this call does not give",
+/// The numbers that a call may give: one of another call's, or of another limit's, would be wrong too.
+pub struct Numbers {
+    malformed: RangeInclusive<u64>,
+    limited: bool,
+}
+
+impl Numbers {
+    fn new(malformed: RangeInclusive<u64>, limit: Limit) -> Self {
+        let limited = limit.is_some();
+        Self { malformed, limited }
+    }
+
+    pub fn admission() -> Self {
+        Self::new(1..=3, None)
+    }
+
+    pub fn step(limit: Limit) -> Self {
+        Self::new(4..=10, limit)
+    }
+
+    pub fn reading(limit: Limit) -> Self {
+        Self::new(1..=12, limit)
+    }
+
+    /// Document 01's table, its third column; under a limit 22 is in the place of 5.
+    fn kind(&self, number: u64) -> Kind {
+        match number {
+            NOT_UTF8 => "utf8",
+            13 => "recursion",
+            16 => "not-present",
+            17 => "unexpected-type",
+            19 => "added",
+            TOO_LONG if self.limited => "too-long",
+            _ if self.malformed.contains(&number) && !(self.limited && number == NO_ZERO) => {
+                "malformed"
+            }
+            _ => "a number that this call does not give",
+        }
     }
 }
 
 impl Said {
     /// `rest` are the fields that a refusal leaves 0, `given` the answer where there is none.
-    fn new(number: u64, place: u64, malformed: Malformed, rest: &[u64], given: Answer) -> Self {
+    fn new(number: u64, place: u64, numbers: Numbers, rest: &[u64], given: Answer) -> Self {
         let answer = match number {
             0 => given,
             _ if rest.iter().any(|field| *field != 0) => odd(rest),
             _ => Answer::Refused {
-                kind: kind(number, malformed),
+                kind: numbers.kind(number),
                 place: place as usize,
             },
         };
         Self { answer, number }
     }
 
-    pub fn verdict(said: Verdict, malformed: Malformed) -> Self {
+    pub fn verdict(said: Verdict, numbers: Numbers) -> Self {
         let given = match said.place {
             0 => Answer::Count(said.count as usize),
             place => odd(&[place, said.count]),
         };
-        Self::new(said.number, said.place, malformed, &[said.count], given)
+        Self::new(said.number, said.place, numbers, &[said.count], given)
     }
 
     /// A step from this offset.
-    pub fn step(said: Stepped, offset: usize, malformed: Malformed) -> Self {
+    pub fn step(said: Stepped, offset: usize, numbers: Numbers) -> Self {
         let element = [
             said.tag,
             said.key_offset,
@@ -125,10 +149,10 @@ impl Said {
             },
             _ => odd(&element),
         };
-        Self::new(said.number, said.place, malformed, &element, given)
+        Self::new(said.number, said.place, numbers, &element, given)
     }
 
-    pub fn value(said: Value, malformed: Malformed) -> Self {
+    pub fn value(said: Value, numbers: Numbers) -> Self {
         let parts = [said.offset, said.size, said.offset2, said.size2];
         let [offset, size, offset2, size2] = parts.map(|field| field as usize);
         let kind = u8::try_from(said.tag).ok().and_then(ElementType::from);
@@ -142,10 +166,10 @@ impl Said {
         };
         let [a, b, c, d] = parts;
         let rest = [said.tag, said.bits, a, b, c, d];
-        Self::new(said.number, said.place, malformed, &rest, given)
+        Self::new(said.number, said.place, numbers, &rest, given)
     }
 
-    pub fn found(said: Found, malformed: Malformed) -> Self {
+    pub fn found(said: Found, numbers: Numbers) -> Self {
         let rest = [said.tag, said.offset, said.size];
         let given = match u8::try_from(said.tag) {
             Ok(tag) => Answer::Found {
@@ -155,7 +179,7 @@ impl Said {
             },
             Err(_) => odd(&rest),
         };
-        Self::new(said.number, said.place, malformed, &rest, given)
+        Self::new(said.number, said.place, numbers, &rest, given)
     }
 
     pub fn written(said: Written) -> Self {

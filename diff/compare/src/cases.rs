@@ -3,6 +3,7 @@
 use crate::damage::damage;
 use crate::draft::Draft;
 use crate::grammar::Garden;
+use crate::limits;
 use crate::nest::{code_with_scope, nest};
 use crate::rng::Rng;
 use crate::short::{Family, NARROW, RAW, TELLING, WIDE};
@@ -100,6 +101,13 @@ pub fn case(seed: u64, number: u64) -> Case {
         Sort::Grammar => Case::Slice(grammar(&mut rng, Texts::Good).bytes),
         _ => Case::Slice(damaged(&mut rng)),
     }
+}
+
+/// The limits under which the slice of this case is asked, besides none.
+pub fn limits(seed: u64, number: u64, bytes: &[u8]) -> [usize; 2] {
+    // A sequence beside those of the sorts, which a limit does not touch.
+    let mut rng = Rng::new(seed, SORTS.len() as u64, number);
+    limits::two(bytes, &mut rng)
 }
 
 fn grammar(rng: &mut Rng, texts: Texts) -> Draft {

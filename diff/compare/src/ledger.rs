@@ -2,8 +2,8 @@
 
 use crate::answer::{Answer, Part, Said};
 
-/// One place for each number of document 01's table, and for 0.
-pub const NUMBERS: usize = 21;
+/// One place for each number up to the largest that reading gives, and for 0.
+pub const NUMBERS: usize = 23;
 
 pub struct Disagreement {
     /// The same for every place and key.

@@ -9,6 +9,7 @@ mod keys;
 mod ledger;
 mod library;
 mod library_writer;
+mod limits;
 mod lookups;
 mod nest;
 mod panics;

@@ -1,14 +1,14 @@
-//! Lookup and typed lookup, by document 01's "Values", against `get` and the twelve typed getters.
+//! Lookup and typed lookup, by document 01's "Values", against `get` and the twelve typed getters, or `get` under a limit.
 
 use bson::{RawBsonRef as Value, RawDocument};
 use oracle::lookup::{call, find};
 use oracle::step::{Element, Kind};
 use oracle::value::Content;
 
-use crate::answer::{Answer, Part, Said, READING};
+use crate::answer::{Answer, Numbers, Part, Said};
 use crate::keys::Asked;
 use crate::ledger::Ledger;
-use crate::library;
+use crate::library::Lent;
 
 /// The tags that have a getter.
 const GETTERS: [u8; 12] = [
@@ -18,15 +18,15 @@ const GETTERS: [u8; 12] = [
 /// No document has this key, so its answer is that of every key that matches nothing.
 const NOWHERE: &str = "\0";
 
-pub fn compare(doc: &RawDocument, asked: &Asked, ledger: &mut Ledger) {
-    for key in asked.own() {
-        by_key(doc, key, ledger);
-    }
+/// Without a limit every key of the document's own is asked, under one the key whose turn it is.
+pub fn compare(doc: &RawDocument, lent: Lent, asked: &Asked, ledger: &mut Ledger) {
+    let turn = turn(lent.bytes);
+    let own: Vec<_> = asked.own().collect();
     let absent = asked.absent();
-    let turn = turn(doc.as_bytes());
-    match ledger.thorough {
-        true => absent.iter().for_each(|key| by_key(doc, key, ledger)),
-        false => by_key(doc, absent[turn % absent.len()], ledger),
+    let own = some(&own, ledger.thorough || lent.limit.is_none(), turn);
+    let absent = some(&absent, ledger.thorough, turn);
+    for key in own.iter().chain(absent) {
+        by_key(doc, lent, key, ledger);
     }
 }
 
@@ -36,11 +36,21 @@ fn turn(bytes: &[u8]) -> usize {
     bytes.iter().take(64).fold(bytes.len(), sum)
 }
 
+/// All the keys, or the one whose turn it is.
+fn some<'k, 'a>(keys: &'k [&'a [u8]], all: bool, turn: usize) -> &'k [&'a [u8]] {
+    if all || keys.is_empty() {
+        return keys;
+    }
+    let one = turn % keys.len();
+    &keys[one..=one]
+}
+
 /// `get`, then the getter of the right tag and one of another, or all twelve.
-fn by_key(doc: &RawDocument, key: &[u8], ledger: &mut Ledger) {
-    let (place, found) = find(doc, key);
+fn by_key(doc: &RawDocument, lent: Lent, key: &[u8], ledger: &mut Ledger) {
+    let (place, found) = find(doc, key, lent.limit);
     let lookup = Lookup {
         doc,
+        lent,
         key,
         place,
         found,
@@ -53,7 +63,7 @@ fn by_key(doc: &RawDocument, key: &[u8], ledger: &mut Ledger) {
     }
     let right = lookup.found.as_ref();
     let right = right.map(|element| element.raw.element_type() as u8);
-    let other = GETTERS[turn(doc.as_bytes()) % GETTERS.len()];
+    let other = GETTERS[turn(lent.bytes) % GETTERS.len()];
     if right != Some(other) {
         lookup.ask(Some(other), ledger);
     }
@@ -65,6 +75,7 @@ fn by_key(doc: &RawDocument, key: &[u8], ledger: &mut Ledger) {
 /// A key, and where the Rust's iteration has its first element, or is refused, or ends.
 struct Lookup<'a> {
     doc: &'a RawDocument,
+    lent: Lent<'a>,
     key: &'a [u8],
     place: usize,
     found: Option<Element<'a>>,
@@ -74,11 +85,12 @@ impl Lookup<'_> {
     /// Asks nothing where there is no getter for the tag.
     fn ask(&self, tag: Option<u8>, ledger: &mut Ledger) {
         let text = std::str::from_utf8(self.key).unwrap_or(NOWHERE);
-        let Some(answer) = call(self.doc, text, tag) else {
+        let lent = self.lent;
+        let Some(answer) = call(self.doc, text, tag, lent.limit) else {
             return;
         };
-        let bytes = self.doc.as_bytes();
-        let said = Said::found(library::lookup(bytes, self.key, tag), READING);
+        let said = lent.lookup(self.key, tag);
+        let said = Said::found(said, Numbers::reading(lent.limit));
         let part = match tag {
             Some(tag) => Part::Typed(self.key, tag),
             None => Part::Get(self.key),
@@ -86,7 +98,7 @@ impl Lookup<'_> {
         ledger.hold(part, self.located(&answer), said);
         if let (Ok(value), Some(element)) = (answer, &self.found) {
             let rust = Answer::Value(Content::of(element, value));
-            let said = Said::value(library::read(bytes, self.place), READING);
+            let said = Said::value(lent.read(self.place), Numbers::reading(lent.limit));
             ledger.hold(Part::Looked(self.key), rust, said);
         }
     }

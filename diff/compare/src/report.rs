@@ -1,14 +1,17 @@
 //! What a run prints: what was compared, or the smallest case found that disagrees.
 
+use oracle::step::Limit;
+
 use crate::cases::{case, Case, Sort, SORTS};
 use crate::ledger::{Disagreement, Ledger};
+use crate::limits;
 use crate::run::{Outcome, Plan};
 use crate::session::written;
-use crate::shrink;
+use crate::shrink::{self, Limited};
 use crate::slice;
 
 /// The numbers by which reading refuses: a run that meets fewer shows too little.
-const READING: [usize; 16] = [1, 2, 3, 4, 5, 6, 7, 8, 9, 10, 11, 12, 13, 16, 17, 19];
+const READING: [usize; 17] = [1, 2, 3, 4, 5, 6, 7, 8, 9, 10, 11, 12, 13, 16, 17, 19, 22];
 
 /// Prints the outcome; true where nothing disagrees and every number was met.
 pub fn outcome(plan: &Plan, outcome: &Outcome) -> bool {
@@ -67,10 +70,15 @@ fn disagreement(case: Case) {
 }
 
 fn smallest_slice(bytes: Vec<u8>) -> Option<Disagreement> {
-    let found = shrink::about_slice(&bytes)?;
-    let least = shrink::smallest_slice(bytes, found.word);
-    println!("slice {}", hex::encode(&least));
-    shrink::about_slice(&least)
+    let about = |limit| Some((limit, shrink::about_slice(&bytes, limit)?));
+    let (limit, found) = limits::all(&bytes).find_map(about)?;
+    let least = shrink::smallest_slice(Limited { bytes, limit }, found.word);
+    println!("slice {}{}", hex::encode(&least.bytes), under(least.limit));
+    shrink::about_slice(&least.bytes, least.limit)
+}
+
+fn under(limit: Limit) -> String {
+    limit.map_or("".into(), |limit| format!(" under limit {limit}"))
 }
 
 fn print_found(found: &Disagreement) {
@@ -79,17 +87,22 @@ fn print_found(found: &Disagreement) {
     println!("  library  {}", found.library);
 }
 
-/// Prints every answer about one slice; true where nothing disagrees.
+/// Prints every answer about one slice, without a limit and under each that may tell something; true where nothing disagrees.
 pub fn only(bytes: &[u8]) -> bool {
-    let mut ledger = Ledger {
-        thorough: true,
-        show: true,
-        ..Ledger::default()
+    let show = |limit| {
+        println!("answers{}:", under(limit));
+        let mut ledger = Ledger {
+            thorough: true,
+            show: true,
+            ..Ledger::default()
+        };
+        slice::compare(bytes, limit, &mut ledger);
+        Some((limit, ledger.first?))
     };
-    slice::compare(bytes, &mut ledger);
-    if let Some(found) = &ledger.first {
-        println!("the first that disagrees:");
+    let disagree: Vec<_> = limits::all(bytes).filter_map(show).collect();
+    if let Some((limit, found)) = disagree.first() {
+        println!("the first that disagrees{}:", under(*limit));
         print_found(found);
     }
-    ledger.first.is_none()
+    disagree.is_empty()
 }

@@ -4,7 +4,7 @@ use std::sync::atomic::{AtomicU64, Ordering};
 use std::sync::Mutex;
 use std::thread;
 
-use crate::cases::{case, Case};
+use crate::cases::{case, limits, Case};
 use crate::ledger::Ledger;
 use crate::{session, slice};
 
@@ -59,7 +59,12 @@ fn work(plan: &Plan, next: &AtomicU64, outcome: &Mutex<Outcome>) {
 
 fn agrees(seed: u64, number: u64, ledger: &mut Ledger) -> bool {
     match case(seed, number) {
-        Case::Slice(bytes) => slice::compare(&bytes, ledger),
+        Case::Slice(bytes) => {
+            slice::compare(&bytes, None, ledger);
+            for limit in limits(seed, number, &bytes) {
+                slice::compare(&bytes, Some(limit), ledger);
+            }
+        }
         Case::Session(elements, spare) => session::compare(&elements, spare, ledger),
     }
     ledger.first.is_none()

@@ -1,5 +1,9 @@
 //! Makes a case that disagrees smaller, greedily, as long as the same part of it still disagrees.
 
+use std::iter::once;
+
+use oracle::step::Limit;
+
 use crate::damage::mend;
 use crate::ledger::{Disagreement, Ledger};
 use crate::session;
@@ -17,13 +21,20 @@ const MOST_SHORT: u64 = 20_000;
 /// Runs of every size up to this are dropped, so that an element can go as a whole.
 const MOST_EXACT: usize = 48;
 
-/// What disagrees about a slice, asked for all there is to ask.
-pub fn about_slice(bytes: &[u8]) -> Option<Disagreement> {
+/// A slice and the limit under which it is asked.
+#[derive(Clone, PartialEq)]
+pub struct Limited {
+    pub bytes: Vec<u8>,
+    pub limit: Limit,
+}
+
+/// What disagrees about a slice under a limit, or without one, asked for all there is to ask.
+pub fn about_slice(bytes: &[u8], limit: Limit) -> Option<Disagreement> {
     let mut ledger = Ledger {
         thorough: true,
         ..Ledger::default()
     };
-    slice::compare(bytes, &mut ledger);
+    slice::compare(bytes, limit, &mut ledger);
     ledger.first
 }
 
@@ -35,19 +46,33 @@ pub fn about_session(elements: &[Element], spare: usize) -> Option<Disagreement>
 }
 
 /// The smallest slice found: the first short body that disagrees, in whatever part, else the slice made smaller.
-pub fn smallest_slice(bytes: Vec<u8>, word: &'static str) -> Vec<u8> {
+/// A short body is asked under the least limits, where the slice is under one.
+pub fn smallest_slice(slice: Limited, word: &'static str) -> Limited {
+    let limits = match slice.limit {
+        None => vec![None],
+        limit => vec![Some(0), Some(1), limit],
+    };
     let ranks = 0..MOST_SHORT;
     let short = ranks.flat_map(|rank| [TELLING, NARROW, RAW].map(|family| family.slice(rank)));
-    let found = short
-        .filter(|slice| slice.len() < bytes.len())
-        .find(|slice| about_slice(slice).is_some());
-    found.unwrap_or_else(|| smaller_slice(bytes, word))
+    let short = short.filter(|bytes| bytes.len() < slice.bytes.len());
+    let mut each = short.flat_map(|bytes| at_limits(&bytes, &limits));
+    let found = each.find(|short| about_slice(&short.bytes, short.limit).is_some());
+    found.unwrap_or_else(|| smaller_slice(slice, word))
 }
 
-/// A slice of fewer bytes, or of smaller ones.
-fn smaller_slice(bytes: Vec<u8>, word: &'static str) -> Vec<u8> {
+/// The same bytes under each limit.
+fn at_limits(bytes: &[u8], limits: &[Limit]) -> Vec<Limited> {
+    let at = |limit: &Limit| Limited {
+        bytes: bytes.to_vec(),
+        limit: *limit,
+    };
+    limits.iter().map(at).collect()
+}
+
+/// A slice of fewer bytes, or of smaller ones, or under a smaller limit.
+fn smaller_slice(slice: Limited, word: &'static str) -> Limited {
     let mut search = Search {
-        best: bytes,
+        best: slice,
         word,
         left: MOST_BYTES,
     };
@@ -57,6 +82,7 @@ fn smaller_slice(bytes: Vec<u8>, word: &'static str) -> Vec<u8> {
         let runs = long.chain((1..=MOST_EXACT).rev());
         runs.for_each(|run| search.drop_runs(run));
         search.lower_bytes();
+        search.lower_limit();
         if search.best == before {
             return before;
         }
@@ -64,32 +90,38 @@ fn smaller_slice(bytes: Vec<u8>, word: &'static str) -> Vec<u8> {
 }
 
 struct Search {
-    best: Vec<u8>,
+    best: Limited,
     word: &'static str,
     /// How many more bytes of candidates are tried.
     left: usize,
 }
 
 impl Search {
-    fn disagrees(&mut self, bytes: &[u8]) -> bool {
-        if self.left < bytes.len() {
+    fn disagrees(&mut self, slice: &Limited) -> bool {
+        let size = slice.bytes.len();
+        if self.left < size {
             return false;
         }
-        self.left -= bytes.len();
-        about_slice(bytes).is_some_and(|found| found.word == self.word)
+        self.left -= size;
+        let found = about_slice(&slice.bytes, slice.limit);
+        found.is_some_and(|found| found.word == self.word)
     }
 
     /// Takes the first that disagrees in the same part; true where there is one.
-    fn take(&mut self, candidates: impl IntoIterator<Item = Vec<u8>>) -> bool {
-        let found = candidates.into_iter().find(|bytes| self.disagrees(bytes));
-        let taken = found.is_some();
-        self.best = found.unwrap_or(std::mem::take(&mut self.best));
-        taken
+    fn take(&mut self, candidates: Vec<Limited>) -> bool {
+        let mut candidates = candidates.into_iter();
+        match candidates.find(|slice| self.disagrees(slice)) {
+            Some(found) => {
+                self.best = found;
+                true
+            }
+            None => false,
+        }
     }
 
     fn drop_runs(&mut self, run: usize) {
         let mut at = 0;
-        while at + run <= self.best.len() {
+        while at + run <= self.best.bytes.len() {
             if !self.take(without(&self.best, at, run)) {
                 at += if run > MOST_EXACT { run / 2 } else { 1 };
             }
@@ -97,25 +129,39 @@ impl Search {
     }
 
     fn lower_bytes(&mut self) {
-        for at in 0..self.best.len() {
+        for at in 0..self.best.bytes.len() {
             self.take(lower(&self.best, at));
         }
+    }
+
+    fn lower_limit(&mut self) {
+        let less = self.best.limit.into_iter().flat_map(smaller);
+        let limits: Vec<_> = less.map(Some).collect();
+        self.take(at_limits(&self.best.bytes, &limits));
     }
 }
 
 /// A slice without a run, nothing mended, the header mended, and the lengths around the run too.
-fn without(bytes: &[u8], at: usize, run: usize) -> [Vec<u8>; 3] {
-    let mut bare = bytes.to_vec();
+/// The run may be of a text whose size the limit is near, so each is tried under a limit smaller by as much too.
+fn without(slice: &Limited, at: usize, run: usize) -> Vec<Limited> {
+    let bytes = &slice.bytes;
+    let mut bare = bytes.clone();
     bare.drain(at..at + run);
     let mut headed = bare.clone();
     mend(&mut headed);
-    let mut mended = bytes.to_vec();
+    let mut mended = bytes.clone();
     for field in 4..at.saturating_sub(3) {
         shorten(&mut mended, field, at, run);
     }
     mended.drain(at..at + run);
     mend(&mut mended);
-    [bare, headed, mended]
+    let near = slice.limit.filter(|limit| *limit < bytes.len());
+    let less = near.and_then(|limit| limit.checked_sub(run));
+    let limits: Vec<_> = once(slice.limit).chain(less.map(Some)).collect();
+    let each = [bare, headed, mended];
+    each.iter()
+        .flat_map(|bytes| at_limits(bytes, &limits))
+        .collect()
 }
 
 /// Takes a run out of what seems to be the length of something around it.
@@ -132,13 +178,18 @@ fn shorten(bytes: &mut [u8], field: usize, at: usize, run: usize) {
 }
 
 /// The slice with a smaller byte at this place.
-fn lower(bytes: &[u8], at: usize) -> Vec<Vec<u8>> {
-    let byte = bytes[at];
-    let lower = [0, 1, byte / 2, byte.wrapping_sub(1)];
-    let lower = lower.into_iter().filter(|new| *new < byte);
-    lower
-        .map(|new| [&bytes[..at], &[new], &bytes[at + 1..]].concat())
-        .collect()
+fn lower(slice: &Limited, at: usize) -> Vec<Limited> {
+    let Limited { bytes, limit } = slice;
+    let each = smaller(usize::from(bytes[at])).map(|new| Limited {
+        bytes: [&bytes[..at], &[new as u8], &bytes[at + 1..]].concat(),
+        limit: *limit,
+    });
+    each.collect()
+}
+
+fn smaller(number: usize) -> impl Iterator<Item = usize> {
+    let smaller = [0, 1, number / 2, number.wrapping_sub(1)];
+    smaller.into_iter().filter(move |new| *new < number)
 }
 
 /// The smallest session found: fewer elements, then shorter keys and simpler values.

@@ -7,19 +7,13 @@ use crate::value::Reading;
 
 const MAX_DEPTH: u32 = 200;
 
-/// What the keys of arrays may be: the plain check takes any, the strict one (19) decimal digits.
-#[derive(Clone, Copy, PartialEq)]
-pub enum Keys {
-    Any,
-    Digits,
-}
-
 pub struct Walk<'a> {
     outer: &'a [u8],
-    keys: Keys,
     /// The same at every level.
     limit: Limit,
     pub verdict: Result<(), Refusal>,
+    /// The place of the first key of an array that is not decimal digits, where the strict check ends (19).
+    pub bad_key: Option<usize>,
     pub count: usize,
     /// A value was met that only a stand-in accepted or refused.
     pub judged: bool,
@@ -27,27 +21,27 @@ pub struct Walk<'a> {
     pub differs: bool,
 }
 
-pub fn walk(doc: &RawDocument, keys: Keys, limit: Limit) -> Walk<'_> {
+pub fn walk(doc: &RawDocument, limit: Limit) -> Walk<'_> {
     let mut walk = Walk {
         outer: doc.as_bytes(),
-        keys,
         limit,
         verdict: Ok(()),
+        bad_key: None,
         count: 0,
         judged: false,
         differs: false,
     };
-    walk.verdict = walk.inside(doc, Keys::Any, 0);
+    walk.verdict = walk.inside(doc, false, 0);
     walk
 }
 
 impl<'a> Walk<'a> {
-    /// The values of a document, which have this depth, and those inside them.
-    fn inside(&mut self, doc: &'a RawDocument, keys: Keys, depth: u32) -> Result<(), Refusal> {
+    /// The values of a document or array, which have this depth, and those inside them.
+    fn inside(&mut self, doc: &'a RawDocument, array: bool, depth: u32) -> Result<(), Refusal> {
         for step in Steps::new(self.outer, doc, self.limit) {
             let element = step?;
-            if keys == Keys::Digits && !is_digits(element.raw.key().as_str()) {
-                return Err(Refusal("added", element.place));
+            if array && !is_digits(element.raw.key().as_str()) {
+                self.bad_key = self.bad_key.or(Some(element.place));
             }
             let reading = Reading::of(&element);
             self.judged |= reading.judged;
@@ -58,10 +52,10 @@ impl<'a> Walk<'a> {
             }
             self.count += 1;
             match value {
-                RawBsonRef::Document(inner) => self.inside(inner, Keys::Any, depth + 1)?,
-                RawBsonRef::Array(inner) => self.inside(inner.as_doc(), self.keys, depth + 1)?,
+                RawBsonRef::Document(inner) => self.inside(inner, false, depth + 1)?,
+                RawBsonRef::Array(inner) => self.inside(inner.as_doc(), true, depth + 1)?,
                 RawBsonRef::JavaScriptCodeWithScope(code) => {
-                    self.inside(code.scope, Keys::Any, depth + 2)?
+                    self.inside(code.scope, false, depth + 2)?
                 }
                 _ => {}
             }

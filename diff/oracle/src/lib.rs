@@ -11,7 +11,6 @@ use std::panic::{catch_unwind, AssertUnwindSafe};
 
 use bson::RawDocument;
 
-use check::Keys;
 use lookup::Question;
 use step::{kind, Element, Limit, Refusal, Steps};
 use value::{starred, Content, Reading};
@@ -122,7 +121,7 @@ impl Line {
     }
 
     fn check(&mut self, doc: &RawDocument) {
-        let walk = check::walk(doc, Keys::Any, self.limit);
+        let walk = check::walk(doc, self.limit);
         let verdict = match &walk.verdict {
             Ok(()) => walk.count.to_string(),
             Err(refusal) => refusal.to_string(),
