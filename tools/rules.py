@@ -1,12 +1,13 @@
-"""Document 01's rules for reading, written from its text: what every call must answer, with number and place.
+"""Document 01's rules for reading, with document 02's limit on zero-ended texts (request 2), written from their text: what every call must answer,
+with number and place.
 
-A function gives its answer or raises Refused. UTF-8 is judged by Python's own decoder, which follows RFC 3629.
+A function gives its answer or raises Refused. Where no limit is named there is none. UTF-8 is judged by Python's own decoder, which follows RFC 3629.
 """
 from collections import namedtuple
 
 Element = namedtuple("Element", "place tag key offset size")  # offset and size are those of the framed value
 
-KINDS = {6: "utf8", 13: "recursion", 16: "not-present", 17: "unexpected-type", 19: "added"}
+KINDS = {6: "utf8", 13: "recursion", 16: "not-present", 17: "unexpected-type", 19: "added", 22: "too-long"}
 
 
 class Refused(Exception):
@@ -59,11 +60,12 @@ def is_utf8(v):
         return False
 
 
-def cstring(v):
-    """The size of the text before the first zero."""
-    n = bytes(v).find(0)
-    unless(n >= 0, 5)
-    unless(is_utf8(v[:n]), 6)
+def cstring(v, limit=None):
+    """The size of the text before the first zero. With a limit it may be that at most, and one byte more than that is looked at."""
+    seen = bytes(v) if limit is None else bytes(v[: limit + 1])
+    n = seen.find(0)
+    unless(n >= 0, 5 if limit is None else 22)
+    unless(is_utf8(seen[:n]), 6)
     return n
 
 
@@ -108,18 +110,20 @@ def scope(v):
     return fits(length_field(v, 4, 0), v)
 
 
-def regex(v):
-    pattern = cstring(v) + 1
-    return pattern + cstring(v[pattern:]) + 1
+def regex(v, limit=None):
+    pattern = cstring(v, limit) + 1
+    return pattern + cstring(v[pattern:], limit) + 1
 
 
 FIXED = {0x08: 1, 0x10: 4, 0x01: 8, 0x12: 8, 0x09: 8, 0x11: 8, 0x07: 12, 0x13: 16, 0x0A: 0, 0x06: 0, 0xFF: 0, 0x7F: 0}
 FRAMED = {0x02: string, 0x0D: string, 0x0E: string, 0x0C: pointer, 0x03: document, 0x04: document, 0x05: binary, 0x0B: regex, 0x0F: scope}
 
 
-def value_size(tag, v):
+def value_size(tag, v, limit=None):
     unless(tag in FIXED or tag in FRAMED, 7)
-    return fits(FIXED[tag], v) if tag in FIXED else FRAMED[tag](v)
+    if tag in FIXED:
+        return fits(FIXED[tag], v)
+    return FRAMED[tag](v, limit) if tag == 0x0B else FRAMED[tag](v)
 
 
 # ---- admission and one step
@@ -132,31 +136,31 @@ def admit(s):
     return len(s)
 
 
-def element(s, place):
-    k = cstring(s[place + 1 :])
+def element(s, place, limit=None):
+    k = cstring(s[place + 1 :], limit)
     offset = place + 1 + k + 1
-    return Element(place, s[place], s[place + 1 : place + 1 + k], offset, value_size(s[place], s[offset:]))
+    return Element(place, s[place], s[place + 1 : place + 1 + k], offset, value_size(s[place], s[offset:], limit))
 
 
-def step(s, offset):
+def step(s, offset, limit=None):
     """The element at an offset, or None at the terminator."""
     admit(s)
     unless(4 <= offset < len(s), 4, offset)
-    return None if offset == len(s) - 1 else at(offset, element, s, offset)
+    return None if offset == len(s) - 1 else at(offset, element, s, offset, limit)
 
 
-def step_from(s, offset, ended):
+def step_from(s, offset, ended, limit=None):
     """The same from any cursor: an ended one answers the end, once the slice is admitted."""
     admit(s)
-    return None if ended else step(s, offset)
+    return None if ended else step(s, offset, limit)
 
 
-def elements(s):
+def elements(s, limit=None):
     """The elements that steps yield from offset 4 on; a refused step ends them by its refusal."""
-    e = step(s, 4)
+    e = step(s, 4, limit)
     while e:
         yield e
-        e = step(s, e.offset + e.size)
+        e = step(s, e.offset + e.size, limit)
 
 
 # ---- values: a word and numbers; a part of the slice is its offset and its size
@@ -237,9 +241,9 @@ def value_of(s, e):
 # ---- values at a place
 
 
-def read_at(s, place):
+def read_at(s, place, limit=None):
     """The element at a place, and its value."""
-    e = step(s, place)
+    e = step(s, place, limit)
     unless(e, 16, place)
     return e, value_of(s, e)
 
@@ -270,16 +274,16 @@ def part_at(s, place, name):
 # ---- lookup
 
 
-def get(s, key):
-    """The first element of the key, and its value."""
-    for e in elements(s):
+def get(s, key, limit=None):
+    """The first element of the key, and its value. No limit is on the key that is looked up."""
+    for e in elements(s, limit):
         if e.key == key:
             return e, value_of(s, e)
     raise Refused(16, len(s) - 1)
 
 
-def get_with(s, key, tag):
-    return with_tag(*get(s, key), tag)
+def get_with(s, key, tag, limit=None):
+    return with_tag(*get(s, key, limit), tag)
 
 
 def is_empty(s):
@@ -308,17 +312,17 @@ def inside(s, offset, size, *level):
         raise Refused(refused.number, offset + refused.place) from None
 
 
-def walk(s, depth, array, strict):
+def walk(s, depth, array, strict, limit):
     """How many values there are in a document and below it."""
     count = 0
-    for e in elements(s):
+    for e in elements(s, limit):
         word, *numbers = visit(s, e, depth, array, strict)
         count += 1
         if word in OPENS:
             offset, size = numbers[-2:]
-            count += inside(s, offset, size, depth + OPENS[word], word == "array", strict)
+            count += inside(s, offset, size, depth + OPENS[word], word == "array", strict, limit)
     return count
 
 
-def check(s, strict=False):
-    return walk(s, 0, False, strict)
+def check(s, strict=False, limit=None):
+    return walk(s, 0, False, strict, limit)
