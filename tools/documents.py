@@ -1,8 +1,10 @@
 """The documents of the list: bytes for every class, boundary and kind of damage, with the keys that are looked up in them.
 
-Each group is a generator of (document, asks); an ask is ("get", key) or ("typed", key, tag). Nothing here says an answer, but for
-document 01's "Bytes to try", whose results stand beside them as the paper has them.
+Each group is a generator of (document, asks); an ask is ("get", key) or ("typed", key, tag). The groups under a limit have it in front. Nothing here
+says an answer, but for document 01's "Bytes to try", whose results stand beside them as the paper has them, and for the settled points of a limit.
 """
+import re
+
 INT32, NULL, DOCUMENT, ARRAY, SCOPE = 0x10, 0x0A, 0x03, 0x04, 0x0F
 GETTERS = (0x01, 0x02, 0x03, 0x04, 0x05, 0x07, 0x08, 0x09, 0x0B, 0x10, 0x11, 0x12)  # the tags of the Rust's twelve typed getters
 
@@ -308,6 +310,17 @@ def texts():
 # ---- code with scope
 
 
+CODES = (text("x"), text(b"\xff"), le(2) + b"xx", le(0) + b"\0", le(-1) + b"\0", le(99) + b"\0", le(7) + b"\0" * 7)
+SCOPES = (
+    doc(), doc(BATTERY), doc(element(0x08, "y", b"\2")), doc(element(0x14, "y")),
+    b"", b"\0", le(5), le(6) + b"\0", le(5) + b"\1", le(4) + b"\0", le(-5) + b"\0",
+)
+
+
+def coded(code, scope):
+    return doc(element(SCOPE, "a", le(4 + len(code + scope)) + code + scope), BATTERY)
+
+
 def codes_with_scope():
     """Sizes 0 to 20, each with code and scope of every fit; and code and scope bad at once, in each pairing."""
     for n in range(21):
@@ -315,12 +328,9 @@ def codes_with_scope():
             body = le(code) + b"\0" * max(code, 0) + le(n - 8 - code) + b"\0" * 16
             yield doc(element(SCOPE, "a", le(n) + body[: max(n - 4, 0)])), gets("a")
             yield doc(element(SCOPE, "a", le(n) + body), BATTERY), gets("battery")
-    codes = (text("x"), text(b"\xff"), le(2) + b"xx", le(0) + b"\0", le(-1) + b"\0", le(99) + b"\0", le(7) + b"\0" * 7)
-    scopes = [doc(), doc(BATTERY), doc(element(0x08, "y", b"\2")), doc(element(0x14, "y"))]
-    scopes += [b"", b"\0", le(5), le(6) + b"\0", le(5) + b"\1", le(4) + b"\0", le(-5) + b"\0"]
-    for code in codes:
-        for scope in scopes:
-            yield doc(element(SCOPE, "a", le(4 + len(code + scope)) + code + scope), BATTERY), gets("a", "battery")
+    for code in CODES:
+        for scope in SCOPES:
+            yield coded(code, scope), gets("a", "battery")
 
 
 # ---- nesting
@@ -478,3 +488,164 @@ def documents():
         for d, asks in group():
             seen.setdefault(bytes(d), asks)
     return list(seen.items())
+
+
+# ---- under a limit on the size of keys, patterns and options
+
+# the settled points: a limit, a document, and the results of the whole check, plain and then, where it differs, strict
+SETTLED = """3: 0A 00 00 00 0A 61 62 63 00 00 = 1
+2: 0A 00 00 00 0A 61 62 63 00 00 = 22 at 4
+0: 0A 00 00 00 0A 61 62 63 00 00 = 22 at 4
+18446744073709551614: 0A 00 00 00 0A 61 62 63 00 00 = 1
+18446744073709551615: 0A 00 00 00 0A 61 62 63 00 00 = 1
+0: 07 00 00 00 0A 00 00 = 1
+2: 0A 00 00 00 0A FF FF FF 00 00 = 22 at 4
+3: 0A 00 00 00 0A FF FF FF 00 00 = 6 at 4
+1: 0A 00 00 00 0A 61 C3 A9 00 00 = 22 at 4
+2: 0A 00 00 00 0A 61 C3 A9 00 00 = 22 at 4
+3: 0A 00 00 00 0A 61 C3 A9 00 00 = 1
+1: 09 00 00 00 14 61 62 00 00 = 22 at 4
+2: 09 00 00 00 14 61 62 00 00 = 7 at 4
+1: 08 00 00 00 0A 61 62 00 = 22 at 4
+2: 08 00 00 00 0A 61 62 00 = 4 at 8
+2: 0C 00 00 00 0B 00 61 62 00 69 00 00 = 1
+1: 0C 00 00 00 0B 00 61 62 00 69 00 00 = 22 at 4
+2: 0C 00 00 00 0B 00 61 00 69 6D 00 00 = 1
+1: 0C 00 00 00 0B 00 61 00 69 6D 00 00 = 22 at 4
+1: 0C 00 00 00 0B 00 FF FF 00 69 00 00 = 22 at 4
+2: 0C 00 00 00 0B 00 FF FF 00 69 00 00 = 6 at 4
+1: 0C 00 00 00 0B 00 61 00 FF FF 00 00 = 22 at 4
+2: 0C 00 00 00 0B 00 61 00 FF FF 00 00 = 6 at 4
+1: 0C 00 00 00 0B 00 FF 00 69 6D 00 00 = 6 at 4
+0: 07 00 00 00 0B 00 00 = 22 at 4
+100: 07 00 00 00 0B 00 00 = 22 at 4
+18446744073709551614: 07 00 00 00 0B 00 00 = 22 at 4
+18446744073709551615: 07 00 00 00 0B 00 00 = 22 at 4
+2: 12 00 00 00 0A 00 03 00 09 00 00 00 0A 61 62 00 00 00 = 3
+1: 12 00 00 00 0A 00 03 00 09 00 00 00 0A 61 62 00 00 00 = 22 at 12
+2: 12 00 00 00 0A 00 04 00 09 00 00 00 0A 61 62 00 00 00 = 3, strict 19 at 12
+1: 12 00 00 00 0A 00 04 00 09 00 00 00 0A 61 62 00 00 00 = 22 at 12
+2: 19 00 00 00 0F 00 12 00 00 00 01 00 00 00 00 09 00 00 00 0A 61 62 00 00 00 = 2
+1: 19 00 00 00 0F 00 12 00 00 00 01 00 00 00 00 09 00 00 00 0A 61 62 00 00 00 = 22 at 19
+1: 10 00 00 00 04 00 09 00 00 00 08 61 00 02 00 00 = 11 at 10, strict 19 at 10
+0: 10 00 00 00 04 00 09 00 00 00 08 61 00 02 00 00 = 22 at 10
+1: 10 00 00 00 08 00 02 0A 61 62 63 00 0A 61 00 00 = 11 at 4
+1: 10 00 00 00 0A 61 62 63 00 08 61 00 02 0A 00 00 = 22 at 4"""
+
+
+def settled():
+    """The table: each limit and document, and the results of the plain and of the strict check."""
+    for row in SETTLED.split("\n"):
+        limit, hexes, plain, strict = re.fullmatch("(.*): (.*) = ([^,]*)(?:, strict (.*))?", row).groups()
+        yield int(limit), bytes.fromhex(hexes), plain, strict or plain
+
+
+LARGE = (2**31, 2**64 - 2, 2**64 - 1)  # more than any slice has
+
+
+def around(*sizes):
+    """Limits: each size, one less and one more, and large ones."""
+    return sorted({n + i for n in sizes for i in (-1, 0, 1) if n + i >= 0}) + [*LARGE]
+
+
+def settled_limits():
+    for limit, d, _, _ in settled():
+        yield limit, d, gets("", "a", "abc", b"\xff\xff\xff") + typed("abc", NULL) + typed("", 0x0B)
+
+
+def any_limits():
+    """Document 01's bytes, some of which are not admitted, under limits that say nothing of most."""
+    for d, _ in bytes_to_try():
+        for limit in (0, 1, 2**64 - 1):
+            yield limit, d, gets("", "a") + typed("a", 0x08)
+
+
+def key_limits():
+    """A key of each size between two others, each of which is looked up, and one that is not there and may be longer than the limit."""
+    for n in (0, 1, 2, 3, 4, 5, 9, 33):
+        key = "abcdefghi"[:n] if n < 33 else "k" * n
+        d = doc(element(NULL, "z"), element(INT32, key, le(7)), BATTERY)
+        for limit in around(n, 7):
+            yield limit, d, gets("z", key, "battery", "longer than the limit") + typed(key, INT32, 0x02) + typed("battery", INT32)
+
+
+def text_limits():
+    """A fifth of the texts of RFC 3629's rows, each as a key and before it as pattern and as options, under its size and one less."""
+    for t in map(bytes, [*row_texts()][::5]):
+        for limit in (len(t) - 1, len(t)):
+            yield limit, doc(element(0x0B, "", t + b"\0" + t + b"\0"), element(NULL, t), BATTERY), gets("", t, "battery")
+
+
+def regex_limits():
+    """Pattern and options of every fit, whole, cut behind each byte, and damaged at once."""
+    good = [(b"", b""), (b"ab", b""), (b"", b"im"), (b"ab", b"i"), (b"a", b"im")]
+    for p, o in [*good, (b"\xff", b"im"), (b"ab", b"\xff"), (b"\xff\xff", b"\xff\xff")]:
+        value = p + b"\0" + o + b"\0"
+        for limit in around(len(p), len(o)):
+            yield limit, doc(element(0x0B, "", value), BATTERY), gets("", "battery") + typed("", 0x0B)
+        for short in range(1, len(value) + 1):
+            yield 2, doc(element(0x0B, "", value[:-short])), gets("")
+
+
+def type_limits():
+    """Each type beside a key that is too long, or just not."""
+    for tag, value in SAMPLED:
+        for limit in (1, 6, 7):
+            yield limit, framed(tag, value), gets("a", "battery") + typed("a", tag)
+
+
+def scope_limits():
+    """A code and a scope, one of them bad: what they hold is no zero-ended text but for the keys in the scope."""
+    for d in [coded(code, SCOPES[0]) for code in CODES] + [coded(CODES[0], scope) for scope in SCOPES]:
+        for limit in (6, 7):
+            yield limit, d, gets("a", "battery") + typed("a", INT32)
+
+
+def nested_limits():
+    """A key too long in a document, an array and a scope, and in what these hold, with damage before and behind it."""
+    bad = element(0x08, "1", b"\2")
+    for parts in ([BATTERY], [bad, BATTERY], [BATTERY, bad], [element(NULL, "0"), BATTERY, element(NULL, "1")]):
+        inner = doc(*parts)
+        for tag in (DOCUMENT, ARRAY, SCOPE):
+            value = with_scope("code", inner) if tag == SCOPE else inner
+            twice = doc(element(tag, "0", value))
+            for d in (doc(element(tag, "d", value)), doc(element(ARRAY, "d", twice), BATTERY), doc(element(SCOPE, "d", with_scope("", twice)))):
+                for limit in (6, 7):
+                    yield limit, d, gets("d", "battery")
+
+
+def array_limits():
+    """Array keys to the strict check: too long, no digits, and both, before values that are not read."""
+    for keys in (["0", "10"], ["0", "ab"], ["x", "ab"], ["ab", "x"], ["10", "x"], ["", "0"]):
+        array = doc(*(element(0x08, key, bytes([2 * (key == "x")])) for key in keys))
+        for limit in (0, 1, 2):
+            yield limit, doc(element(ARRAY, "", array), element(NULL, "")), gets("")
+
+
+def damage_limits():
+    """A key too long before and behind damage of each kind, and of the damaged element itself."""
+    damages = [(0x14, b""), (0x02, le(0)), (0x02, le(99)), (0x02, le(1) + b"x"), (0x08, b"\2"), (0x02, text(b"\xff")), (SCOPE, le(3))]
+    for tag, value in damages:
+        for parts in ([element(tag, "x", value), BATTERY], [BATTERY, element(tag, "x", value)], [element(tag, "battery", value)]):
+            for limit in (6, 7):
+                yield limit, doc(*parts), gets("battery", "x", "absent") + typed("battery", INT32, 0x02)
+
+
+def beacon_limits():
+    for limit in (0, *around(4, 7)):
+        yield limit, short_beacon(), gets("battery", "note", "power", "uptime", "fault") + typed("battery", INT32) + typed("power", DOCUMENT)
+
+
+LIMITED = (
+    settled_limits, any_limits, key_limits, text_limits, regex_limits, type_limits, scope_limits, nested_limits, array_limits, damage_limits,
+    beacon_limits,
+)
+
+
+def limited():
+    """All documents under a limit, each pair once with the asks that came with it first."""
+    seen = {}
+    for group in LIMITED:
+        for limit, d, asks in group():
+            seen.setdefault((limit, d), asks)
+    return [(limit, d, asks) for (limit, d), asks in seen.items()]

@@ -1,8 +1,9 @@
 #!/usr/bin/env python3
 """Makes what the vectors program replays.
 
-crates/vectors/stdin holds questions, sessions of the writer among them, then the list: a document a line with every answer about it (diff/README.md
-says the form). The answers come from document 01's rules (tools/rules.py, tools/writing.py) and, for the list, are held against those of the Rust.
+crates/vectors/stdin holds questions, sessions of the writer among them, then the list: a document a line with every answer about it, those under a
+limit last (diff/README.md says the form). The answers come from document 01's rules (tools/rules.py, tools/writing.py) and, for the list, are held
+against those of the Rust.
 
 usage: tools/make_cases.py --check           the files are what the rules say; needs no Rust
        tools/make_cases.py ORACLE            asks the oracle program too, and writes the files where it agrees with the rules
@@ -17,7 +18,7 @@ from functools import cache
 import documents as making
 import rules
 import writing
-from documents import NULL, SCOPE, bytes_to_try, doc, element, keyed, nested, scope_below
+from documents import NULL, SCOPE, bytes_to_try, doc, element, keyed, limited, nested, scope_below, settled
 from questions import all_questions
 from rules import Refused
 
@@ -36,6 +37,12 @@ def documents():
     return list(listed.items())
 
 
+@cache
+def listed():
+    """Each document of the list with its asks and its limit: first those without one."""
+    return [(d, asks, None) for d, asks in documents()] + [(d, asks, limit) for limit, d, asks in limited()]
+
+
 def words(*fields):
     return " ".join(map(str, fields))
 
@@ -48,11 +55,11 @@ def answer(rule, *args):
         return words("refused", r.kind(), r.place, r.number)
 
 
-def steps(s):
+def steps(s, limit):
     """One part for each step from offset 4 on."""
     offset = 4
     try:
-        while e := rules.step(s, offset):
+        while e := rules.step(s, offset, limit):
             yield words("at", offset, f"{e.tag:02x}", len(e.key), e.size, answer(rules.value_of, s, e))
             offset = e.offset + e.size
         yield words("at", offset, "end")
@@ -60,8 +67,8 @@ def steps(s):
         yield words("at", offset, "refused", r.kind(), r.place, r.number)
 
 
-def found(s, *ask):
-    e, value = (rules.get if len(ask) == 1 else rules.get_with)(s, *ask)
+def found(s, limit, *ask):
+    e, value = (rules.get if len(ask) == 1 else rules.get_with)(s, *ask, limit)
     return e.place, *value
 
 
@@ -69,19 +76,23 @@ def asked(word, key, *tag):
     return words(word, key.hex(), *(f"{t:02x}" for t in tag))
 
 
-def question(d, asks):
-    return "; ".join([words("document", d.hex())] + [asked(*ask) for ask in asks])
+def head(d, limit):
+    return words(*(() if limit is None else ("limited", limit)), "document", d.hex())
 
 
-def line(d, asks):
+def question(d, asks, limit):
+    return "; ".join([head(d, limit)] + [asked(*ask) for ask in asks])
+
+
+def line(d, asks, limit):
     admitted = answer(lambda: (rules.admit(d),))
-    parts = [words("document", d.hex()), words("admission", admitted)]
+    parts = [head(d, limit), words("admission", admitted)]
     if not admitted.startswith("refused"):
-        parts += steps(d)
-    parts.append(words("check", answer(lambda: (rules.check(d),))))
-    parts.append(words("strict", answer(lambda: (rules.check(d, strict=True),))))
+        parts += steps(d, limit)
+    parts.append(words("check", answer(lambda: (rules.check(d, False, limit),))))
+    parts.append(words("strict", answer(lambda: (rules.check(d, True, limit),))))
     parts.append(words("empty", answer(lambda: ("yes" if rules.is_empty(d) else "no",))))
-    parts += [words(asked(*ask), answer(found, d, *ask[1:])) for ask in asks]
+    parts += [words(asked(*ask), answer(found, d, limit, *ask[1:])) for ask in asks]
     return "; ".join(parts)
 
 
@@ -109,7 +120,7 @@ def part_said(ours, theirs):
 
 def confirm(lines, oracle):
     """The lines with the oracle's stars; ends the program where an answer differs."""
-    asks = "".join(question(d, a) + "\n" for d, a in documents())
+    asks = "".join(question(*entry) + "\n" for entry in listed())
     said = subprocess.run([oracle], input=asks, capture_output=True, text=True, check=True).stdout.splitlines()
     confirmed, differ = [], 0
     for ours, theirs in zip(lines, said, strict=True):
@@ -155,9 +166,14 @@ NUMBERS = {
 }
 
 
-def try_documents(lines):
+def under_limit(numbers):
+    """22 takes the place of 5."""
+    return {22 if n == 5 else n for n in numbers}
+
+
+def try_documents(lines, possible):
     """Some document has each call answered, and refused by each number that it can be; some element has each tag of the table."""
-    said = {call: set() for call in NUMBERS}
+    said = {call: set() for call in possible}
     tags = set()
     for fields in parts_of(lines):
         call = fields[0]
@@ -165,35 +181,37 @@ def try_documents(lines):
             call = "value"
             tags.add(int(fields[2], 16))
         said[call].add(int(fields[-1]) if "refused" in fields else 0)
-    assert said == {call: numbers | {0} for call, numbers in NUMBERS.items()}, said
+    assert said == {call: numbers | {0} for call, numbers in possible.items()}, said
     assert tags == {*rules.FIXED, *rules.FRAMED}, tags
 
 
 def stated():
-    """By name a document, and what its plain and its strict check must say by document 01's text, worked out by hand.
+    """By name a document and its limit, and what its plain and its strict check must say by the rules' text, worked out by hand.
 
     Under empty keys the element of depth k lies at 4 + 6 k. A scope's values lie two deeper, the first 15 behind the scope's tag.
     """
     for d, result in bytes_to_try():
-        yield d.hex(), d, result, result
+        yield d.hex(), d, None, result, result
     for depth, empty, holding in ((198, "199", "200"), (199, "200", "13 at 1213"), (200, "201", "13 at 1219"), (201, "13 at 1210", "13 at 1210")):
-        yield f"empty scope at {depth}", scope_below(depth, doc()), empty, empty
-        yield f"scope at {depth}", scope_below(depth, doc(element(NULL, ""))), holding, holding
+        yield f"empty scope at {depth}", scope_below(depth, doc()), None, empty, empty
+        yield f"scope at {depth}", scope_below(depth, doc(element(NULL, ""))), None, holding, holding
     for key, strict in (("", "19 at 11"), ("a", "19 at 11"), ("1a", "19 at 11"), ("01", "2"), ("7", "2"), ("0", "2")):
-        yield f"array keyed {key}", keyed(key), "2", strict
+        yield f"array keyed {key}", keyed(key), None, "2", strict
+    for limit, d, plain, strict in settled():
+        yield f"{d.hex()} under {limit}", d, limit, plain, strict
 
 
-def result(d, strict):
-    said = answer(lambda: (rules.check(d, strict),)).split(" ")
+def result(d, strict, limit):
+    said = answer(lambda: (rules.check(d, strict, limit),)).split(" ")
     return f"{said[3]} at {said[2]}" if said[0] == "refused" else said[0]
 
 
 def try_checks():
     """The rules say what is stated, and each such document is in the list or asked by itself."""
-    listed, asked = dict(documents()), all_questions()
-    for name, d, plain, strict in stated():
-        assert (result(d, False), result(d, True)) == (plain, strict), name
-        assert d in listed or {f"check {d.hex()}", f"strict {d.hex()}"} <= asked.keys(), name
+    heads, asked = {head(d, limit) for d, _, limit in listed()}, all_questions()
+    for name, d, limit, plain, strict in stated():
+        assert (result(d, False, limit), result(d, True, limit)) == (plain, strict), name
+        assert head(d, limit) in heads or {f"check {d.hex()}", f"strict {d.hex()}"} <= asked.keys(), name
 
 
 def refusal(rule, *args):
@@ -205,28 +223,37 @@ def refusal(rule, *args):
         return r
 
 
-def is_behind_damage(d, key):
+def is_behind_damage(d, key, limit):
     """Whether a refused step ends the lookup, and the key stands behind it."""
-    r, step = refusal(rules.get, d, key), refusal(lambda: list(rules.elements(d)))
+    r, step = refusal(rules.get, d, key, limit), refusal(lambda: list(rules.elements(d, limit)))
     return r.number > 3 and (r.number, r.place) == (step.number, step.place) and key + b"\0" in d[r.place + 1 :]
 
 
-def is_before_damage(d, key):
+def is_before_damage(d, key, limit):
     """Whether the lookup finds a value, and the whole check refuses behind it."""
-    if refusal(rules.get, d, key).number:
+    if refusal(rules.get, d, key, limit).number:
         return False
-    e, _ = rules.get(d, key)
-    return refusal(rules.check, d).place >= e.offset + e.size
+    e, _ = rules.get(d, key, limit)
+    return refusal(rules.check, d, False, limit).place >= e.offset + e.size
+
+
+def is_damaged_by(d, limit):
+    """Whether the whole check refuses because of the limit alone."""
+    return limit is not None and refusal(rules.check, d, False, limit).number and not refusal(rules.check, d).number
 
 
 def try_lookups():
-    """Document 01's bytes are in the list with their lookups; a dozen lookups lie behind damage, a dozen before it."""
-    listed = dict(documents())
+    """Document 01's bytes are in the list with their lookups; a dozen lookups lie behind damage, a dozen before it, with no limit and where one alone
+    makes the damage."""
+    asks_of = dict(documents())
     for d, _ in bytes_to_try():
-        assert {("get", b""), ("get", b"a")} <= set(listed[d]), d.hex()
-    gets = [(d, ask[1]) for d, asks in listed.items() for ask in asks if ask[0] == "get" and ask[1]]
-    for is_so in (is_behind_damage, is_before_damage):
-        assert sum(is_so(d, key) for d, key in gets) >= 12, is_so.__name__
+        assert {("get", b""), ("get", b"a")} <= set(asks_of[d]), d.hex()
+    plain = [entry for entry in listed() if entry[2] is None]
+    damaged = [entry for entry in listed() if is_damaged_by(entry[0], entry[2])]
+    for entries in (plain, damaged):
+        gets = [(d, ask[1], limit) for d, asks, limit in entries for ask in asks if ask[0] == "get" and ask[1]]
+        for is_so in (is_behind_damage, is_before_damage):
+            assert sum(is_so(*get) for get in gets) >= 12, is_so.__name__
 
 
 # the numbers that each call of the writer can return
@@ -294,8 +321,10 @@ def main():
     if not oracle and not checking:
         sys.exit(__doc__)
     try_checks()
-    lines = [line(d, asks) for d, asks in documents()]
-    try_documents(lines)
+    lines = [line(*entry) for entry in listed()]
+    plain = len(documents())
+    try_documents(lines[:plain], NUMBERS)
+    try_documents(lines[plain:], {call: under_limit(numbers) for call, numbers in NUMBERS.items()})
     try_lookups()
     try_sessions()
     try_written()

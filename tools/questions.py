@@ -4,8 +4,10 @@ the writer.
 
 Each is a line for the vectors program and the answer that document 01's rules give, as the program prints it.
 """
+from itertools import product
+
 import rules
-from documents import BATTERY, NULL, SAMPLED, TRY, bytes_to_try, doc, element, keyed, le, row_texts, scope_below, text
+from documents import BATTERY, NULL, SAMPLED, TRY, around, bytes_to_try, doc, element, keyed, le, row_texts, scope_below, text
 from rules import FIXED, FRAMED, PARTS, Refused, admit, boolean, cstring, is_utf8, signed, unsigned, value_size
 from writing import replayed, sessions
 
@@ -68,6 +70,14 @@ def cstring_questions():
         for b in (b"", b"a", b"ab", b"abc", b"a\0", b"\xff"):
             if a or not b:
                 ask("equal", yes(a == b), a, b)
+
+
+def limit_questions():
+    """Texts under limits around their size, with a zero behind them, with one further on, and with none; one kind is not UTF-8."""
+    for n in (0, 1, 3, 4, 5, 9):
+        for t, rest in product((b"abcdefghi"[:n], b"\xff" * n), (b"", b"\0", b"b\0")):
+            for limit in around(n):
+                ask_at("cstring-under", said(cstring, t + rest, limit), t + rest, limit)
 
 
 # ---- numbers
@@ -224,8 +234,8 @@ def session_questions():
 
 
 GROUPS = (
-    utf8_questions, cstring_questions, number_questions, length_questions, tag_questions, admission_questions, place_questions, part_questions,
-    check_questions, session_questions,
+    utf8_questions, cstring_questions, limit_questions, number_questions, length_questions, tag_questions, admission_questions, place_questions,
+    part_questions, check_questions, session_questions,
 )
 
 

@@ -8,11 +8,12 @@ import subprocess
 import sys
 from pathlib import Path
 
-from make_cases import documents, line
+from make_cases import documents, head, line, listed
 from questions import said_session
 from writing import every_type, needed, session
 
 EVERY = 40  # one document of the list in so many
+EVERY_LIMITED = 8  # of those under a limit
 # how many fields of a part say what is asked: another key or tag might have the same answer, so these are made unreadable
 ASKED = {"get": 2, "typed": 3}
 
@@ -45,10 +46,11 @@ def replay(lines):
 
 def try_documents():
     lines, reports = [], []
-    for d, asks in documents()[::EVERY]:
-        for text, bad in wrong_lines(line(d, asks)):
+    plain = len(documents())
+    for d, asks, limit in listed()[:plain:EVERY] + listed()[plain::EVERY_LIMITED]:
+        for text, bad in wrong_lines(line(d, asks, limit)):
             lines.append(text)
-            reports.append(f"differs: {bad} of {d.hex()}")
+            reports.append(f"differs: {bad} of {head(d, limit)}")
     said = replay(lines)
     missed = [r for r in reports if r not in set(said)]
     if said[:-1] != reports or not said[-1].endswith(f", {len(reports)} differ"):

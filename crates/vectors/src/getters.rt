@@ -77,6 +77,18 @@ fn part_of<'a>(document: &'a [u8], found: Found, which: Which) -> &'a [u8] {
     }
 }
 
+// Whether the parts of the value found are those that the lookup of parts hands back.
+pub fn are_parts_found(document: &[u8], key: &[u8], tag: u8, limit: usize, found: Found) -> bool {
+    cstr::equal(
+        document::get_part_under(document, key, tag, Which::First, limit),
+        part_of(document, found, Which::First),
+    )
+        & cstr::equal(
+            document::get_part_under(document, key, tag, Which::Second, limit),
+            part_of(document, found, Which::Second),
+        )
+}
+
 fn is_regex(document: &[u8], key: &[u8], found: Found) -> bool {
     cstr::equal(
         typed_parts::get_regex(document, key, Which::First),

@@ -1,6 +1,6 @@
 // Replays a list from standard input. A line that begins with `document ` is a document with its answers, which are
-// compared; one that begins with `write ` is a session of the writer, any other a question: these are printed again with
-// the answer behind them.
+// compared; one that begins with `limited ` is one under a limit; one that begins with `write ` is a session of the
+// writer, any other a question: these two are printed again with the answer behind them.
 mod documents;
 mod getters;
 mod lookups;
@@ -15,7 +15,8 @@ mod writing;
 
 ghost use Prim.Native.Nat.{_≤_};
 ghost use lib.ListN.{length};
-use documents::replay_document;
+use documents::replay_limited;
+use documents::replay_plain;
 use libc::STDIN_FILENO;
 use progress::Progress;
 use questions::replay_question;
@@ -26,15 +27,18 @@ use text::word_number;
 use writing::replay_session;
 
 fn replay_line(line: &[u8], progress: Progress) -> Progress {
-    if (8 < line.len()) & (word_number(b"document", line) == 1) {
-        return replay_document(line, progress);
+    match word_number(b"document limited write", line) {
+        1 => replay_plain(line, progress),
+        2 => replay_limited(line, progress),
+        3 => {
+            replay_session(line);
+            progress
+        }
+        _ => {
+            replay_question(line);
+            progress
+        }
     }
-    if word_number(b"write", line) == 1 {
-        replay_session(line);
-    } else {
-        replay_question(line);
-    }
-    progress
 }
 
 // The rest is an unfinished line.

@@ -15,6 +15,7 @@ use crate::readings::uint32;
 use crate::text::distance;
 use crate::text::field;
 use crate::text::fields_from;
+use crate::text::limit_of;
 use crate::text::say;
 use crate::text::say_number;
 use crate::text::say_signed;
@@ -65,7 +66,7 @@ fn framed(first: &[u8], rest: &[u8]) -> Reading {
 // What the leaf answers that the line's word names.
 fn ask(line: &[u8], first: &[u8], second: &[u8]) -> Reading {
     match word_number(
-        b"u32 i32 i64 f64 bool timestamp utf8 cstring valid equal admit value",
+        b"u32 i32 i64 f64 bool timestamp utf8 cstring valid equal admit value cstring-under",
         line,
     ) {
         1 => uint32(first),
@@ -80,6 +81,7 @@ fn ask(line: &[u8], first: &[u8], second: &[u8]) -> Reading {
         10 => Reading::Flag(cstr::equal(first, second)),
         11 => length(raw::admit(first)),
         12 => framed(first, second),
+        13 => length(cstr::read_cstring_with_max_len(first, limit_of(field(line, 2)))),
         _ => Reading::Nothing,
     }
 }

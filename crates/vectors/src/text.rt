@@ -164,6 +164,11 @@ pub fn number_of(digits: &[u8]) -> usize {
     n
 }
 
+// The limit that decimal digits name. It is set, be it the largest number.
+pub fn limit_of(digits: &[u8]) -> usize {
+    cstr::most_of(number_of(digits))
+}
+
 // The offset of a byte from an offset on, or the end.
 pub fn find(line: &[u8], from: usize, b: u8) -> usize
     requires { ⌜ from ≤ length (now line) ⌝ }

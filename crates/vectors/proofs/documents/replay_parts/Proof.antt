@@ -6,10 +6,10 @@ use Rattle.vectors.proofs.documents.replay_parts.Statement.{statement}
 use Rattle.vectors.proofs.documents.replay_parts.Tie as tie
 
 abbrev Inv-loop : tie.InvT-loop
-Inv-loop parts document hex progress₀ i₀ progress i = Unit {0}
+Inv-loop parts document limit head progress₀ i₀ progress i = Unit {0}
 
 abbrev μ-loop : tie.MeasureT-loop
-μ-loop parts document hex progress₀ i₀ progress i = length parts - i
+μ-loop parts document limit head progress₀ i₀ progress i = length parts - i
 
 loop-holds : tie.Need-loop-holds Inv-loop μ-loop
 loop-holds c = search needs
