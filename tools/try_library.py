@@ -2,9 +2,10 @@
 """Holds the C library against document 01's rules: every boundary function is called as C calls it, and every field that it returns and every
 byte that it was lent for writing must be what tools/rules.py, tools/writing.py and tools/joining.py say.
 
-Asked whole: the documents of the list; the sessions of the writer, call by call; all pairs of document 01's own bytes to join; slices of each size
-up to 71 bytes; texts of two characters; texts of zeros but for one byte; values of each tag in each part of some slices; calls of the writer at the
-greatest room. Sampled, by seeds: 3,000 damaged copies of the documents, and of the pairs of documents 1,000 of each kind, good or damaged before
+Asked whole: the documents of the list, and those that are listed under a limit under each of theirs; the sessions of the writer, call by call; all
+pairs of document 01's own bytes to join; slices of each size up to 71 bytes, the check of them under limits too; texts of two characters; texts of
+zeros but for one byte; values of each tag in each part of some slices; calls of the writer at the greatest room. Sampled: every third document under
+one of its limits, in turn; by seeds 3,000 damaged copies of the documents, and of the pairs of documents 1,000 of each kind, good or damaged before
 good or damaged.
 
 Then the tool is tried itself, on some of the questions: each byte of an answer is changed behind the call, which must be reported, and the rules are
@@ -25,9 +26,9 @@ from unittest.mock import patch
 import joining
 import rules
 import writing
-from documents import FIELDS, ID, OLD_BINARY, ROWS, SAMPLES, Dice, bytes_to_try, doc, element, gets, keyed, le, resized, row_texts
-from documents import short_beacon, text
-from make_cases import NUMBERS, RETURNED, documents
+from documents import FIELDS, ID, OLD_BINARY, ROWS, SAMPLES, Dice, around, bytes_to_try, doc, element, gets, keyed, le, limited, resized
+from documents import row_texts, short_beacon, text
+from make_cases import NUMBERS, RETURNED, documents, under_limit
 from rules import Refused
 from writing import hexed, replayed, session
 
@@ -54,6 +55,12 @@ FUNCTIONS = {
     "lookup_typed": (FOUND, SLICE, SLICE, BYTE),
     "step": (STEPPED, SLICE, WHOLE, HALF),
     "read": (VALUE, SLICE, WHOLE),
+    "check_under": (VERDICT, SLICE, WHOLE),
+    "check_strict_under": (VERDICT, SLICE, WHOLE),
+    "lookup_under": (FOUND, SLICE, SLICE, WHOLE),
+    "lookup_typed_under": (FOUND, SLICE, SLICE, BYTE, WHOLE),
+    "step_under": (STEPPED, SLICE, WHOLE, HALF, WHOLE),
+    "read_under": (VALUE, SLICE, WHOLE, WHOLE),
     "value_of": (VALUE, SLICE, WHOLE, BYTE, WHOLE, WHOLE),
     "join": (JOINED, SLICE, SLICE, OUT),
     "writer_new": (WRITER,),
@@ -187,10 +194,10 @@ def found(rule, *args):
     return 0, e.place, e.tag, e.offset, e.size
 
 
-def stepped(s, offset, ended):
+def stepped(s, offset, ended, limit=None):
     """The step, and the cursor behind it."""
     try:
-        e = rules.step_from(s, offset, ended)
+        e = rules.step_from(s, offset, ended, limit)
     except Refused as r:
         return r.number, r.place, 1, offset
     if not e:
@@ -213,7 +220,10 @@ def read_given(s, e):
     return e, rules.value_of(s, e)
 
 
-def question(name, rule, *args, asked):
+def question(name, rule, *args, asked, limit=None):
+    """With a limit, that to the function which takes one behind all else, as its rule does."""
+    if limit is not None:
+        return question(f"{name}_under", rule, *args, limit, asked=(*asked, limit))
     return name, asked, packed(FUNCTIONS[name][0], *said(rule, *args))
 
 
@@ -231,37 +241,74 @@ def yielded(s):
 STRANGE = (0, 1, 2, 3, 2**31, 2**63, 2**64 - 1)  # offsets where no step begins
 
 
-def at_places(s, elements):
+def at_places(s, elements, limit):
     """From each offset that steps reach, the one where they end among them, and from others: the step with the mark and without, and the value."""
     reached = [4, *(e.offset + e.size for e in elements)]
     inside = [e.place + 1 for e in elements]
     for offset in dict.fromkeys([*reached, *inside, max(len(s) - 1, 0), len(s), len(s) + 1, *STRANGE]):
         for ended in (False, True):
-            yield question("step", stepped, s, offset, ended, asked=(s, offset, ended))
-        yield question("read", value, rules.read_at, s, offset, asked=(s, offset))
-    for e in elements:
-        yield question("value_of", value, rules.read_at, s, e.place, asked=(s, e.place, e.tag, e.offset, e.size))
+            yield question("step", stepped, s, offset, ended, asked=(s, offset, ended), limit=limit)
+        yield question("read", value, rules.read_at, s, offset, asked=(s, offset), limit=limit)
 
 
-def lookups(s, elements, asks):
+def lookups(s, elements, asks, limit):
     """Keys that are there, absent, empty, with a zero, and not UTF-8; each with the element's tag, others, and tags outside the table."""
     tags = {e.key: e.tag for e in reversed(elements)}
     keys = [*tags, *(key + b"\0" for key in [*tags][:1]), b"", b"absent", b"\0", b"\xff", *(key for _, key, *_ in asks)]
     pairs = [(key, tag) for key in keys for tag in (tags.get(key, 0x10), 0x02 if tags.get(key) == 0x10 else 0x10, 0x00, 0x14)]
     for key in dict.fromkeys(keys):
-        yield question("lookup", found, rules.get, s, key, asked=(s, key))
+        yield question("lookup", found, rules.get, s, key, asked=(s, key), limit=limit)
     for key, tag in dict.fromkeys([*pairs, *(ask[1:] for ask in asks if ask[0] == "typed")]):
-        yield question("lookup_typed", found, rules.get_with, s, key, tag, asked=(s, key, tag))
+        yield question("lookup_typed", found, rules.get_with, s, key, tag, asked=(s, key, tag), limit=limit)
+
+
+def reading(s, asks=(), limit=None):
+    """The questions about one document that may be asked under a limit; also about what lies behind a key that is too long."""
+    elements = yielded(s)
+    yield question("check", verdict, rules.check, s, False, asked=(s,), limit=limit)
+    yield question("check_strict", verdict, rules.check, s, True, asked=(s,), limit=limit)
+    yield from at_places(s, elements, limit)
+    yield from lookups(s, elements, asks, limit)
 
 
 def about(s, asks=()):
-    """All questions about one document."""
-    yield question("check", verdict, rules.check, s, asked=(s,))
-    yield question("check_strict", verdict, rules.check, s, True, asked=(s,))
+    """All questions about one document without a limit."""
+    yield from reading(s, asks)
     yield question("is_empty", verdict, rules.is_empty, s, asked=(s,))
-    elements = yielded(s)
-    yield from at_places(s, elements)
-    yield from lookups(s, elements, asks)
+    for e in yielded(s):
+        yield question("value_of", value, rules.read_at, s, e.place, asked=(s, e.place, e.tag, e.offset, e.size))
+
+
+# ---- under a limit
+
+
+def sizes_met(s):
+    """The sizes of the keys, patterns and options in a document and below it, as far as steps and values are not refused."""
+    for e in yielded(s):
+        yield len(e.key)
+        word, *numbers = said(rules.value_of, s, e)
+        if word == "regex":
+            yield from numbers[1::2]
+        if word in rules.OPENS:
+            offset, size = numbers[-2:]
+            yield from sizes_met(s[offset : offset + size])
+
+
+def limits_of(s):
+    return [*dict.fromkeys([0, 1, 2, *around(*sizes_met(s))])]
+
+
+def under_limits():
+    """The documents that are listed under a limit, under each of theirs; every third of the others under one of its own, in turn."""
+    for d, asks in {d: asks for _, d, asks in limited()}.items():
+        for limit in limits_of(d):
+            yield from reading(d, asks, limit)
+    for i, (d, asks) in enumerate(documents()[::3]):
+        limits = limits_of(d)
+        yield from reading(d, asks, limits[i % len(limits)])
+    for d, _ in sized_documents():
+        for limit in limits_of(d):
+            yield question("check", verdict, rules.check, d, False, asked=(d,), limit=limit)
 
 
 # ---- elements of the caller's own
@@ -513,6 +560,7 @@ def differing(library, questions):
 def kinds_of_questions():
     yield all_sessions()
     yield chain.from_iterable(about(d, asks) for d, asks in chain(documents(), sized_documents()))
+    yield under_limits()
     yield own_elements()
     yield chain(texts_of_two(), lone_bytes())
     yield chain.from_iterable(joined(*pair) for pair in chain(telling_pairs(), sized_pairs(), pairs_at_random(1000)))
@@ -562,6 +610,7 @@ REFUSALS = {
     "join": NUMBERS["check"] | {14},
     "writer_new": set(),
 } | {NAMED.get(word, f"append_{word}"): returned for word, returned in RETURNED.items()}
+REFUSALS |= {name: under_limit(REFUSALS[name.removesuffix("_under")]) for name in FUNCTIONS if name.endswith("_under")}
 
 
 def try_bytes(library, firsts):
@@ -574,19 +623,19 @@ def try_bytes(library, firsts):
     return len(spoiled)
 
 
-def zero_tag_ends(s, offset, right=rules.step):
+def zero_tag_ends(s, offset, limit, right=rules.step):
     rules.admit(s)
-    return None if s[offset : offset + 1] == b"\0" and offset >= 4 else right(s, offset)
+    return None if s[offset : offset + 1] == b"\0" and offset >= 4 else right(s, offset, limit)
 
 
-def swallowing_ends(s, offset, right=rules.step):
+def swallowing_ends(s, offset, limit, right=rules.step):
     rules.admit(s)
-    return None if offset == len(s) else right(s, offset)
+    return None if offset == len(s) else right(s, offset, limit)
 
 
-def tag_first(s, place, right=rules.element):
+def tag_first(s, place, limit, right=rules.element):
     rules.unless(s[place] in rules.FIXED or s[place] in rules.FRAMED, 7)
-    return right(s, place)
+    return right(s, place, limit)
 
 
 def scope_of_14(v, right=rules.scope):
@@ -598,9 +647,33 @@ def framed_anew(s, tag, offset, size, right=rules.value_in):
     return right(s, tag, offset, rules.value_size(tag, s[offset:]))
 
 
-def last_match(s, key, right=rules.get):
+def last_match(s, key, limit=None, right=rules.get):
     matches = [e for e in yielded(s) if e.key == key]
-    return (matches[-1], rules.value_of(s, matches[-1])) if matches else right(s, key)
+    return (matches[-1], rules.value_of(s, matches[-1])) if matches else right(s, key, limit)
+
+
+def other_limit(changed, right=rules.cstring):
+    """Zero-ended texts under another limit."""
+    return patch.object(rules, "cstring", lambda v, limit=None: right(v, None if limit is None else changed(limit)))
+
+
+def slice_end_is_5(v, limit=None, right=rules.cstring):
+    return right(v, None if limit is not None and len(v) <= limit else limit)
+
+
+def utf8_first(v, limit=None, right=rules.cstring):
+    if 0 in v:
+        right(v)
+    return right(v, limit)
+
+
+def key_limited(s, key, limit=None, right=rules.get):
+    rules.unless(limit is None or len(key) <= limit, 22)
+    return right(s, key, limit)
+
+
+def below_unlimited(*level, right=rules.inside):
+    return right(*level[:-1], None)
 
 
 def second_first(first, second, buffer, right=joining.join):
@@ -617,6 +690,16 @@ WRONG_READING = {
     "the last match is found": patch.object(rules, "get", last_match),
     "a scope lies one deeper": patch.dict(rules.OPENS, codewithscope=1),
     "every text is UTF-8": patch.object(rules, "is_utf8", lambda v: True),
+}
+WRONG_LIMITS = {
+    "a text of the limit's size is too long": other_limit(lambda limit: limit - 1),
+    "a text may have one byte more": other_limit(lambda limit: limit + 1),
+    "the largest number is no limit": other_limit(lambda limit: None if limit == 2**64 - 1 else limit),
+    "a text that the slice ends is 5": patch.object(rules, "cstring", slice_end_is_5),
+    "6 comes before 22": patch.object(rules, "cstring", utf8_first),
+    "a regex has no limit": patch.dict(rules.FRAMED, {0x0B: lambda v, limit: rules.regex(v)}),
+    "the key that is looked up is limited": patch.object(rules, "get", key_limited),
+    "what is nested has no limit": patch.object(rules, "inside", below_unlimited),
 }
 WRONG_JOINING = {
     "the second is first": patch.object(joining, "join", second_first),
@@ -641,12 +724,13 @@ def all_telling():
 
 def try_rules(library):
     """A wrong rule shows as a difference."""
-    for questions, rules_of in ((some_reading, WRONG_READING), (all_telling, WRONG_JOINING), (all_sessions, WRONG_WRITING)):
+    tried = ((some_reading, WRONG_READING), (under_limits, WRONG_LIMITS), (all_telling, WRONG_JOINING), (all_sessions, WRONG_WRITING))
+    for questions, rules_of in tried:
         for what, wrong in rules_of.items():
             with wrong:
                 if not any(differing(library, questions())):
                     sys.exit(f"not reported: {what}")
-    return len(WRONG_READING | WRONG_JOINING | WRONG_WRITING)
+    return sum(len(rules_of) for _, rules_of in tried)
 
 
 def main():
