@@ -14,6 +14,8 @@ const NO_ZERO: u64 = 5;
 const NOT_UTF8: u64 = 6;
 const TOO_LONG: u64 = 22;
 
+const STRAY: Kind = "a number that this call does not give";
+
 #[derive(Clone, Copy, Debug, PartialEq)]
 pub enum Answer {
     Refused {
@@ -83,16 +85,15 @@ impl Numbers {
     /// Document 01's table, its third column; under a limit 22 is in the place of 5.
     fn kind(&self, number: u64) -> Kind {
         match number {
+            NO_ZERO if self.limited => STRAY,
+            TOO_LONG if self.limited => "too-long",
             NOT_UTF8 => "utf8",
             13 => "recursion",
             16 => "not-present",
             17 => "unexpected-type",
             19 => "added",
-            TOO_LONG if self.limited => "too-long",
-            _ if self.malformed.contains(&number) && !(self.limited && number == NO_ZERO) => {
-                "malformed"
-            }
-            _ => "a number that this call does not give",
+            _ if self.malformed.contains(&number) => "malformed",
+            _ => STRAY,
         }
     }
 }
