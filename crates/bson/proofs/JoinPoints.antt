@@ -1,5 +1,5 @@
 -- The definition of joining says what document 01 and docs/DECISIONS.md settle. Assumes nothing.
-use mathlib.Core.Path.{_≡_, refl}
+use mathlib.Core.Path.{refl}
 use Rattle.bson.specs.Bytes.{le32, bytes}
 use Rattle.bson.specs.Utf8.{rows, utf8}
 use Rattle.bson.specs.Cstring.{zeroText, cstringUnder}
@@ -14,8 +14,9 @@ use Rattle.bson.specs.Output.{put}
 use Rattle.bson.specs.Grammar.{bytes32, documentOf}
 use Rattle.bson.specs.Writer.{room}
 use Rattle.bson.specs.Join.{body, both, sizeOfBoth, bothPut, join}
-use Rattle.bson.specs.JoinPoints.{joinPoints, saidOf, settledOf}
+use Rattle.bson.specs.Decided.{Hold}
+use Rattle.bson.specs.JoinPoints.{joinPoints}
 
-pub join-points-hold : saidOf joinPoints ≡ settledOf joinPoints
+pub join-points-hold : Hold joinPoints
 unfolding le32 bytes rows utf8 zeroText cstringUnder tags rowOf fits framedUnder valueSizeUnder admitted elementUnder stepUnder iterateFor iterateUnder bool content valueIn valueOf goodArrayKey opening visit opened walkFor walkUnder checkUnder put bytes32 documentOf room body both sizeOfBoth bothPut join joinPoints
 join-points-hold = refl

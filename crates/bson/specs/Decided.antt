@@ -150,6 +150,8 @@ scopePoints =
     ∷ (check false (scopeOf 6), refuses 2 4)
     -- places in nested documents count in the outermost slice
     ∷ (check false (0x0E ∷ 0 ∷ 0 ∷ 0 ∷ 0x03 ∷ 0 ∷ 0x07 ∷ 0 ∷ 0 ∷ 0 ∷ 0x14 ∷ 0 ∷ 0 ∷ 0 ∷ []), refuses 7 10)
+    -- P5 inside another, whose own iteration ends at 16
+    ∷ (check false (0x11 ∷ 0 ∷ 0 ∷ 0 ∷ 0x03 ∷ 0 ∷ 0x0A ∷ 0 ∷ 0 ∷ 0 ∷ 0x10 ∷ 0 ∷ 0x07 ∷ 0 ∷ 0 ∷ 0 ∷ 0 ∷ []), refuses 4 16)
     ∷ []
 
 -- depth
@@ -180,13 +182,14 @@ strictPoints =
     ∷ (check true (0x0F ∷ 0 ∷ 0 ∷ 0 ∷ 0x04 ∷ 0 ∷ badBoolean ++ (0 ∷ [])), refuses 19 10)
     ∷ []
 
-abbrev pub saidOf : List Point → List (Answer ℕ)
+-- points of whatever kind hold
+abbrev pub saidOf : {A : Type 0} → List (A × A) → List A
 saidOf [] = []
 saidOf (p ∷ ps) = p .0 ∷ saidOf ps
 
-abbrev pub settledOf : List Point → List (Answer ℕ)
+abbrev pub settledOf : {A : Type 0} → List (A × A) → List A
 settledOf [] = []
 settledOf (p ∷ ps) = p .1 ∷ settledOf ps
 
-abbrev pub Hold : List Point → Type 0
+abbrev pub Hold : {A : Type 0} → List (A × A) → Type 0
 Hold points = saidOf points ≡ settledOf points

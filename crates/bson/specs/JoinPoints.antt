@@ -2,10 +2,8 @@
 use Prim.Native.Nat.{ℕ}
 use mathlib.Core.List.{List, [], _∷_}
 use Rattle.bson.specs.Join.{Joined, wrote, refused, joined, join}
+use Rattle.bson.specs.Decided.{empty}
 use Rattle.bson.specs.WriterPoints.{blank}
-
-abbrev pub empty : List ℕ
-empty = 0x05 ∷ 0 ∷ 0 ∷ 0 ∷ 0 ∷ []
 
 -- a null under the key `a`, and a boolean under `b`
 abbrev pub nullDocument : List ℕ
@@ -36,11 +34,3 @@ joinPoints =
     ∷ (join trueDocument damaged [], joined (refused 11 7 2) [])
     ∷ (join [] trueDocument [], joined (refused 1 0 1) [])
     ∷ []
-
-abbrev pub saidOf : List (Joined × Joined) → List Joined
-saidOf [] = []
-saidOf (p ∷ ps) = p .0 ∷ saidOf ps
-
-abbrev pub settledOf : List (Joined × Joined) → List Joined
-settledOf [] = []
-settledOf (p ∷ ps) = p .1 ∷ settledOf ps

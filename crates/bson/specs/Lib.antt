@@ -21,6 +21,7 @@ pub mod Report
 pub mod Vectors
 pub mod Decided
 pub mod LimitPoints
+pub mod SpanPoints
 pub mod GrammarPoints
 pub mod WriterPoints
 pub mod JoinPoints

@@ -1,6 +1,6 @@
 -- Admission, the cursor, one step and iteration (document 01, "Admission and one step").
 use Prim.Native.Nat.{ℕ, zero, suc, _+_, _-_}
-use mathlib.Core.List.{List, []}
+use mathlib.Core.List.{List, [], _∷_, _++_}
 use mathlib.Core.Bool.{Bool, true, false, cond, _&&_}
 use lib.ListN.{length, getD, drop}
 use lib.Dec.{leb, eqb}
@@ -107,6 +107,21 @@ iterateFor limit (suc n) s offset = onward (stepUnder limit s (cursor offset fal
 
 unfoldable pub iterateUnder : Limit → List ℕ → ℕ → Iteration
 iterateUnder limit s offset = iterateFor limit (suc (length s)) s offset
+
+-- the elements that an iteration yields
+abbrev pub elements : Iteration → List Element
+elements ended = []
+elements (broken n p) = []
+elements (more e rest) = e ∷ elements rest
+
+-- "an element is its tag, key, zero and framed value"
+abbrev pub span : Element → Part
+span e = part (e .place) (1 + e .key .size + 1 + e .value .size)
+
+-- the bytes of elements, one behind the other
+abbrev pub spans : List ℕ → List Element → List ℕ
+spans s [] = []
+spans s (e ∷ es) = bytes s (span e) ++ spans s es
 
 -- without a limit
 abbrev pub element : List ℕ → ℕ → Answer Element
