@@ -1,7 +1,7 @@
 -- Equal bytes, byte by byte, and the bytes of a part. Assumes nothing.
 use Prim.Native.Nat.{ℕ, suc, _+_, _-_, _<_, _≤_}
 use mathlib.Core.Path.{_≡_, refl, ap, sym, _∙_}
-use mathlib.Core.List.{List, [], _∷_}
+use mathlib.Core.List.{List, [], _∷_, _++_}
 use mathlib.Core.Bool.{true, false, true≢false}
 use native.Mathlib.Numerals.{add-one}
 use native.Mathlib.Omega.{arith}
@@ -49,6 +49,11 @@ bytes-length s p h = simp (length-take, length-drop) (omega arith)
 pub slice-part : (s : List ℕ) (p : Part) → take (p .offset + p .size - p .offset) (drop (p .offset) s) ≡ bytes s p
 unfolding bytes
 slice-part s p = let n : p .offset + p .size - p .offset ≡ p .size = omega arith in rw n
+
+-- two parts, one behind the other, are one
+pub bytes-join : (s : List ℕ) (from n m : ℕ) → bytes s (part from n) ++ bytes s (part (from + n) m) ≡ bytes s (part from (n + m))
+unfolding bytes
+bytes-join s from n m = rw (← drop-drop n from s) (sym (take-add n m (drop from s)))
 
 -- a part without its front is the rest of its bytes
 pub bytes-trim : (s : List ℕ) (p : Part) (front : ℕ) → p .offset + p .size ≤ length s → front ≤ p .size

@@ -25,3 +25,6 @@ pub mod Taken
 pub mod ReadBack
 pub mod Builds
 pub mod Refusals
+pub mod Told
+pub mod NotBehind
+pub mod Accounted

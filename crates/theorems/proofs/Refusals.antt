@@ -157,7 +157,7 @@ yielded-in s c e y =
 
 module _ (limit : Limit) where
   -- "key, [..] 6; tag, 7; framing": one list for all their tests, though a single test has fewer; "22 in the place of 5 whenever a limit is set"
-  abbrev framings : List ℕ
+  abbrev pub framings : List ℕ
   framings = 6 ∷ 7 ∷ 8 ∷ 9 ∷ 10 ∷ missing limit ∷ []
 
   -- "admission; [..] 4; [..] key, [..] 6; tag, 7; framing"
@@ -226,7 +226,7 @@ module _ (limit : Limit) where
   unfolding valueSizeUnder
   size-in tag v = then-in (then-in (weaken refl (row-in tag)) (λ r q. given)) (λ z q. framed-in z v)
 
-  element-in : (s : List ℕ) (p : ℕ) → RefusesIn (framings limit) (elementUnder limit s p)
+  pub element-in : (s : List ℕ) (p : ℕ) → RefusesIn (framings limit) (elementUnder limit s p)
   unfolding elementUnder
   element-in s p =
       then-in (cstring-in (drop (p + 1) s)) λ k q.
