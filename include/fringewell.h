@@ -145,10 +145,11 @@ typedef struct {
  * Not limited are the key that is looked up, and texts with their length in front. */
 
 /* The whole check: every element of every level, its value read, none deeper than 200 (top values have depth 0; inside documents and
- * arrays it is one more, inside a scope two). Refused by 1 to 13, the first met in the document's order; else `count` is the number of
- * values. A document that passed is then refused by none of 1 to 13 in a lookup, in a step from offset 4 or from where the last one
- * ended, or in reading at a place that a step gave. It has one meaning: no other bytes read as the same elements, and each of its bytes
- * is of its length, of one element's tag, key, zero or value, or its last zero; the same holds of every document inside. */
+ * arrays it is one more, inside a scope two). Refused by 1 to 13, the first met in the document's order, its place not behind where the
+ * elements end that steps from offset 4 yield; else `count` is the number of values. A document that passed is then refused by none of 1
+ * to 13 in a lookup, in a step from offset 4 or from where the last one ended, or in reading at a place that a step gave. It has one
+ * meaning: no other bytes read as the same elements, and each of its bytes is of its length, of one element's tag, key, zero or value, or
+ * its last zero; the same holds of every document inside. */
 fringewell_verdict fringewell_check(const uint8_t *document, size_t length);
 
 /* The whole check under a limit. Refused by 1 to 4, 6 to 13 and 22. A document that passed is then refused by none of 1 to 13 and 22 in
@@ -179,11 +180,13 @@ fringewell_found fringewell_lookup_typed_under(const uint8_t *document, size_t l
                                                size_t limit);
 
 /* One step of an iteration, which starts with offset 4 and ended false and goes on with `next` and `ended`. number 0 and ended 0: an
- * element, framed but not read. number 0 and ended 1: the end, at the terminator or where the cursor had ended. Refused by 1 to 10. An
- * end or a refusal sets the mark and keeps the offset. Any cursor gets an answer. */
+ * element, framed but not read: place is the offset given, key_offset place + 1, offset key_offset + key_size + 1, next offset + size, so
+ * that elements lie one behind the other, in a damaged document too. number 0 and ended 1: the end, at the terminator or where the cursor
+ * had ended. Refused by 1 to 10, by 4 and above at the offset given, which is where the elements so far end. An end or a refusal sets the
+ * mark and keeps the offset. Any cursor gets an answer. */
 fringewell_stepped fringewell_step(const uint8_t *document, size_t length, size_t offset, bool ended);
 
-/* One step under a limit. Refused by 1 to 4, 6 to 10 and 22. */
+/* One step under a limit. Refused by 1 to 4, 6 to 10 and 22, by 4 and above at the offset given. */
 fringewell_stepped fringewell_step_under(const uint8_t *document, size_t length, size_t offset, bool ended, size_t limit);
 
 /* The value of the element whose tag byte is at this place. Refused by 16 where the place is the terminator, and by 1 to 12. Any place

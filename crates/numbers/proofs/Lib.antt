@@ -3,4 +3,5 @@ pub mod Read
 pub mod Determined
 pub mod Tells
 pub mod OneFrame
+pub mod Behind
 pub mod ValueTells
