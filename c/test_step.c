@@ -200,6 +200,70 @@ static void last_values(void) {
     EXPECT_NO_ELEMENT(fringewell_step(BYTES(6, 0, 0, 0, 0x0A, 0), 6, false), FRINGEWELL_STEP_OUTSIDE, 6, 6);
 }
 
+/* Steps from 4 to the end or a refusal, under a limit unless that is NULL. Each element begins where the one before it ended, and its tag,
+ * key, zero and value lie one behind the other; at the end their sizes add up to the document's less 5; at a refusal they reach its place,
+ * the number is 4 exactly where that is past the terminator, and the check is refused no further on. Gives how many elements there were. */
+static int one_behind_the_other(const uint8_t *document, size_t length, const size_t *limit) {
+    fringewell_verdict verdict = limit == NULL ? fringewell_check(document, length) : fringewell_check_under(document, length, *limit);
+    uint64_t told = 0;
+    for (int n = 0;; n++) {
+        fringewell_stepped stepped = limit == NULL ? fringewell_step(document, length, 4 + told, false)
+                                                   : fringewell_step_under(document, length, 4 + told, false, *limit);
+        if (stepped.number != 0) {
+            EXPECT_EQUAL(stepped.place, 4 + told);
+            EXPECT_EQUAL(stepped.number == FRINGEWELL_STEP_OUTSIDE, 4 + told >= length);
+            EXPECT(verdict.number != 0 && verdict.place <= 4 + told);
+            return n;
+        }
+        if (stepped.ended != 0) {
+            EXPECT_EQUAL(told, length - 5);
+            return n;
+        }
+        EXPECT_EQUAL(stepped.place, 4 + told);
+        EXPECT_EQUAL(stepped.key_offset, stepped.place + 1);
+        EXPECT_EQUAL(stepped.offset, stepped.key_offset + stepped.key_size + 1);
+        told += 1 + stepped.key_size + 1 + stepped.size;
+        EXPECT_EQUAL(stepped.next, 4 + told);
+    }
+}
+
+/* The first n bytes of the frame, with a length and a zero of their own. An element that is cut is told where this zero can be its last
+ * byte: one byte short; an empty value under an empty key; the regex without its options. Under 0 the first key is too long, under 1 the
+ * pattern of the eleventh element. */
+static void cut_at_each_byte(void) {
+    static const size_t limits[] = {0, 1, 2};
+    for (size_t n = 4; n < sizeof every_type; n++) {
+        uint8_t cut[sizeof every_type] = {(uint8_t)(n + 1)};
+        memcpy(cut + 4, every_type + 4, n - 4);
+        int told = 0;
+        while (told < 21 && elements[told].offset + elements[told].size <= n) {
+            told++;
+        }
+        if (told < 21) {
+            uint64_t end = elements[told].offset + elements[told].size;
+            told += n + 1 == end || (elements[told].size == 0 && n == elements[told].place + 1) || n == 104;
+        }
+        EXPECT_EQUAL((uint64_t)one_behind_the_other(cut, n + 1, NULL), (uint64_t)told);
+        EXPECT_EQUAL((uint64_t)one_behind_the_other(cut, n + 1, &limits[0]), 0);
+        EXPECT_EQUAL((uint64_t)one_behind_the_other(cut, n + 1, &limits[1]), (uint64_t)(told < 10 ? told : 10));
+        EXPECT_EQUAL((uint64_t)one_behind_the_other(cut, n + 1, &limits[2]), (uint64_t)told);
+    }
+}
+
+/* A code with scope of length 0 to 3 has only those few value bytes: the next step begins on its own length field, where 0 is no tag. */
+static void short_scopes(void) {
+    for (uint8_t n = 0; n < 4; n++) {
+        const uint8_t document[11] = {11, 0, 0, 0, 0x0F, 0, n, 0, 0, 0, 0};
+        fringewell_stepped scope = fringewell_step(document, sizeof document, 4, false);
+        EXPECT_EQUAL(scope.number, 0);
+        EXPECT_EQUAL(scope.offset, 6);
+        EXPECT_EQUAL(scope.size, n);
+        EXPECT_EQUAL(scope.next, (uint64_t)6 + n);
+        EXPECT_NO_ELEMENT(fringewell_step(document, sizeof document, scope.next, false), FRINGEWELL_UNKNOWN_TAG, 6 + n, 6 + n);
+        EXPECT_EQUAL((uint64_t)one_behind_the_other(document, sizeof document, NULL), 1);
+    }
+}
+
 /* Any cursor gets an answer: admission first, then the mark, then 4, and nothing wraps. */
 static void cursors(void) {
     static const size_t outside[] = {0, 3, 13, 14, INT32_MAX, UINT32_MAX, (size_t)UINT32_MAX + 5, PTRDIFF_MAX, SIZE_MAX - 3, SIZE_MAX};
@@ -227,6 +291,8 @@ int main(void) {
     own_numbers();
     own_parts();
     last_values();
+    cut_at_each_byte();
+    short_scopes();
     cursors();
     return held();
 }

@@ -8,6 +8,9 @@ zeros but for one byte; values of each tag in each part of some slices; calls of
 one of its limits, in turn; by seeds 3,000 damaged copies of the documents, and of the pairs of documents 1,000 of each kind, good or damaged before
 good or damaged.
 
+Of each document and each damaged copy, without a limit and under one, the steps from offset 4 are followed by the library's own answers, apart from the
+rules: the elements must lie one behind the other, and their sizes add up, as the header says of a step.
+
 Then the tool is tried itself, on some of the questions: each byte of an answer is changed behind the call, which must be reported, and the rules are
 made wrong, each of which must show as a difference.
 
@@ -241,11 +244,15 @@ def yielded(s):
 STRANGE = (0, 1, 2, 3, 2**31, 2**63, 2**64 - 1)  # offsets where no step begins
 
 
+def reached(elements):
+    """Where steps begin, the one that ends or is refused among them."""
+    return [4, *(e.offset + e.size for e in elements)]
+
+
 def at_places(s, elements, limit):
-    """From each offset that steps reach, the one where they end among them, and from others: the step with the mark and without, and the value."""
-    reached = [4, *(e.offset + e.size for e in elements)]
+    """From each offset that steps reach, and from others: the step with the mark and without, and the value."""
     inside = [e.place + 1 for e in elements]
-    for offset in dict.fromkeys([*reached, *inside, max(len(s) - 1, 0), len(s), len(s) + 1, *STRANGE]):
+    for offset in dict.fromkeys([*reached(elements), *inside, max(len(s) - 1, 0), len(s), len(s) + 1, *STRANGE]):
         for ended in (False, True):
             yield question("step", stepped, s, offset, ended, asked=(s, offset, ended), limit=limit)
         yield question("read", value, rules.read_at, s, offset, asked=(s, offset), limit=limit)
@@ -309,6 +316,14 @@ def under_limits():
     for d, _ in sized_documents():
         for limit in limits_of(d):
             yield question("check", verdict, rules.check, d, False, asked=(d,), limit=limit)
+
+
+def along_under_limits():
+    """Every document, and every damaged copy, under one of its own limits, in turn: the steps."""
+    for i, d in enumerate(chain((d for d, _ in documents()), damaged(DAMAGED))):
+        limits = limits_of(d)
+        for offset in reached(yielded(d)):
+            yield question("step", stepped, d, offset, False, asked=(d, offset, False), limit=limits[i % len(limits)])
 
 
 # ---- elements of the caller's own
@@ -407,6 +422,9 @@ def with_length(dice, d):
     true = int.from_bytes(d[where : where + 4], "little")
     n = dice.pick((true - 1, true + 1, -true, -1, 0, 1, 4, 5, len(d) - where, 2**31 - 1, 2**31 - 5, -(2**31), true << 8))
     return d[:where] + le(n) + d[where + 4 :]
+
+
+DAMAGED = 3000
 
 
 def damaged(count):
@@ -561,25 +579,96 @@ def kinds_of_questions():
     yield all_sessions()
     yield chain.from_iterable(about(d, asks) for d, asks in chain(documents(), sized_documents()))
     yield under_limits()
+    yield along_under_limits()
     yield own_elements()
     yield chain(texts_of_two(), lone_bytes())
     yield chain.from_iterable(joined(*pair) for pair in chain(telling_pairs(), sized_pairs(), pairs_at_random(1000)))
-    yield chain.from_iterable(about(d) for d in damaged(3000))
+    yield chain.from_iterable(about(d) for d in damaged(DAMAGED))
+
+
+# ---- sums: where the steps of a document lead
+
+
+def is_admitted(s):
+    return said(verdict, rules.is_empty, s)[0] == 0
+
+
+def misled(s, steps):
+    """What is wrong with the steps of an admitted document from offset 4 on, by the header's words on fringewell_step."""
+    told = 0
+    while 4 + told in steps:
+        number, place, ended, behind, _, key_offset, key_size, offset, size = steps[4 + told]
+        if number:
+            right = number > 3 and ended and place == behind == 4 + told and (number == 4) == (4 + told >= len(s))
+            return None if right else f"refused by {number} at {place}, behind {told} bytes of elements"
+        if ended:
+            return None if behind == 4 + told == len(s) - 1 else f"ended at {behind}, behind {told} bytes of elements"
+        if (place, key_offset, offset, behind) != (4 + told, place + 1, key_offset + key_size + 1, offset + size):
+            return f"at {place} with key {key_offset}, value {offset} and next {behind}, behind {told} bytes of elements"
+        told += 1 + key_size + 1 + size
+    return f"no step asked at {4 + told}"
+
+
+class Sums:
+    """Takes the steps with an open cursor, one document after the other, each under one limit or none; and follows them, document by document."""
+
+    def __init__(self):
+        self.asked, self.steps, self.followed, self.wrong = None, {}, 0, []
+
+    def take(self, name, args, answer):
+        if name not in ("step", "step_under") or args[2]:
+            return
+        s, offset, _, *limit = args
+        if (s, limit) != self.asked:
+            self.follow()
+            self.asked, self.steps = (s, limit), {}
+        self.steps[offset] = struct.unpack("<9Q", answer)
+
+    def follow(self):
+        """The document that was asked last, where it is admitted."""
+        if not self.asked or not is_admitted(self.asked[0]):
+            return
+        self.followed += 1
+        if wrong := misled(self.asked[0], self.steps):
+            self.wrong.append(f"{shown(self.asked[0])} under {self.asked[1]}: {wrong}")
+
+
+def try_sums():
+    """A number that leads elsewhere is reported: each of an element's, of an end's and of a refusal's that a caller goes by. In the list are codes with
+    scope of length 0 to 3, behind which the next step begins on their own length."""
+    assert {0, 1, 2, 3} <= {e.size for d, _ in documents() for e in yielded(d) if e.tag == 0x0F}
+    tried = 0
+    for s in (short_beacon(), *(d for d, _ in bytes_to_try() if is_admitted(d))):
+        steps = {offset: (*stepped(s, offset, False), *[0] * 9)[:9] for offset in reached(yielded(s))}
+        assert misled(s, steps) is None, s.hex()
+        for offset, step in steps.items():
+            going = {"place", "key_offset", "key_size", "offset", "size", "next"}
+            fields = going if not step[2] else {"next", "place"} if step[0] else {"next"}
+            spoiled = [(STEPPED.index(field), step[STEPPED.index(field)] + 1) for field in fields]
+            spoiled += [(0, 7 if step[0] == 4 else 4), (0, 1)]
+            for i, n in spoiled:
+                assert misled(s, steps | {offset: (*step[:i], n, *step[i + 1 :])}), (s.hex(), offset, STEPPED[i])
+                tried += 1
+    return tried
 
 
 def compare(library):
-    """Whether all answers are alike; and of each function and number the first question."""
+    """Whether all answers are alike, and lead where they say; and of each function and number the first question."""
     asked = differ = 0
-    firsts = {}
+    firsts, sums = {}, Sums()
     for name, args, answer, expected in answered(library, chain.from_iterable(kinds_of_questions())):
         asked += 1
         firsts.setdefault((name, expected[0]), (name, args, expected))
+        sums.take(name, args, answer)
         if answer != expected:
             differ += 1
             if differ <= 5:
                 print(report(name, args, answer, expected))
+    sums.follow()
     print(f"{asked - differ} answers of the library as document 01's rules say, {differ} differ")
-    return differ == 0, firsts
+    apart = len(sums.wrong)
+    print(*sums.wrong[:5], f"{sums.followed - apart} times a document's elements lie one behind the other, {apart} times not", sep="\n")
+    return differ == 0 == apart, firsts
 
 
 def smallest(library):
@@ -744,7 +833,8 @@ def main():
         alike, firsts = compare(library)
         if not alike:
             sys.exit(1)
-        print(f"each of {try_bytes(library, firsts)} changed bytes of an answer is reported, and each of {try_rules(library)} wrong rules")
+        print(f"each of {try_bytes(library, firsts)} changed bytes of an answer is reported, each of {try_rules(library)} wrong rules,")
+        print(f"and each of {try_sums()} steps that lead elsewhere")
 
 
 if __name__ == "__main__":
