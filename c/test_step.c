@@ -202,9 +202,11 @@ static void last_values(void) {
 
 /* Steps from 4 to the end or a refusal, under a limit unless that is NULL. Each element begins where the one before it ended, and its tag,
  * key, zero and value lie one behind the other; at the end their sizes add up to the document's less 5; at a refusal they reach its place,
- * the number is 4 exactly where that is past the terminator, and the check is refused no further on. Gives how many elements there were. */
+ * and the number is 4 exactly where that is past the terminator. The check is refused at one of the elements, in it or where it ends, or as
+ * the step is. Gives how many elements there were. */
 static int one_behind_the_other(const uint8_t *document, size_t length, const size_t *limit) {
     fringewell_verdict verdict = limit == NULL ? fringewell_check(document, length) : fringewell_check_under(document, length, *limit);
+    bool met = verdict.number == 0;
     uint64_t told = 0;
     for (int n = 0;; n++) {
         fringewell_stepped stepped = limit == NULL ? fringewell_step(document, length, 4 + told, false)
@@ -212,11 +214,12 @@ static int one_behind_the_other(const uint8_t *document, size_t length, const si
         if (stepped.number != 0) {
             EXPECT_EQUAL(stepped.place, 4 + told);
             EXPECT_EQUAL(stepped.number == FRINGEWELL_STEP_OUTSIDE, 4 + told >= length);
-            EXPECT(verdict.number != 0 && verdict.place <= 4 + told);
+            EXPECT(verdict.number != 0 && (met || (verdict.number == stepped.number && verdict.place == stepped.place)));
             return n;
         }
         if (stepped.ended != 0) {
             EXPECT_EQUAL(told, length - 5);
+            EXPECT(met);
             return n;
         }
         EXPECT_EQUAL(stepped.place, 4 + told);
@@ -224,6 +227,7 @@ static int one_behind_the_other(const uint8_t *document, size_t length, const si
         EXPECT_EQUAL(stepped.offset, stepped.key_offset + stepped.key_size + 1);
         told += 1 + stepped.key_size + 1 + stepped.size;
         EXPECT_EQUAL(stepped.next, 4 + told);
+        met = met || (stepped.place <= verdict.place && verdict.place <= stepped.next);
     }
 }
 
@@ -264,6 +268,14 @@ static void short_scopes(void) {
     }
 }
 
+/* P5 inside another document, whose own steps come to its terminator: the check is refused there, where the element ends. */
+static void swallowed_inside(void) {
+    static const uint8_t outer[17] = {17, 0, 0, 0, 0x03, 0, 10, 0, 0, 0, 0x10, 0, 7, 0, 0, 0, 0};
+    EXPECT_VERDICT(fringewell_check(outer, sizeof outer), FRINGEWELL_STEP_OUTSIDE, 16, 0);
+    EXPECT_EQUAL((uint64_t)one_behind_the_other(outer, sizeof outer, NULL), 1);
+    EXPECT_NO_ELEMENT(fringewell_step(outer, sizeof outer, 16, false), 0, 0, 16);
+}
+
 /* Any cursor gets an answer: admission first, then the mark, then 4, and nothing wraps. */
 static void cursors(void) {
     static const size_t outside[] = {0, 3, 13, 14, INT32_MAX, UINT32_MAX, (size_t)UINT32_MAX + 5, PTRDIFF_MAX, SIZE_MAX - 3, SIZE_MAX};
@@ -293,6 +305,7 @@ int main(void) {
     last_values();
     cut_at_each_byte();
     short_scopes();
+    swallowed_inside();
     cursors();
     return held();
 }

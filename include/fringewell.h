@@ -145,11 +145,11 @@ typedef struct {
  * Not limited are the key that is looked up, and texts with their length in front. */
 
 /* The whole check: every element of every level, its value read, none deeper than 200 (top values have depth 0; inside documents and
- * arrays it is one more, inside a scope two). Refused by 1 to 13, the first met in the document's order, its place not behind where the
- * elements end that steps from offset 4 yield; else `count` is the number of values. A document that passed is then refused by none of 1
- * to 13 in a lookup, in a step from offset 4 or from where the last one ended, or in reading at a place that a step gave. It has one
- * meaning: no other bytes read as the same elements, and each of its bytes is of its length, of one element's tag, key, zero or value, or
- * its last zero; the same holds of every document inside. */
+ * arrays it is one more, inside a scope two). Refused by 1 to 13, the first met in the document's order: at an element that steps from
+ * offset 4 yield, in it or where it ends, or as these steps are refused; else `count` is the number of values. A document that passed is
+ * then refused by none of 1 to 13 in a lookup, in a step from offset 4 or from where the last one ended, or in reading at a place that a
+ * step gave. It has one meaning: no other bytes read as the same elements, and each of its bytes is of its length, of one element's tag,
+ * key, zero or value, or its last zero; the same holds of every document inside. */
 fringewell_verdict fringewell_check(const uint8_t *document, size_t length);
 
 /* The whole check under a limit. Refused by 1 to 4, 6 to 13 and 22. A document that passed is then refused by none of 1 to 13 and 22 in

@@ -1,4 +1,4 @@
--- Proof that the elements of an iteration have these bytes.
+-- The elements of an iteration have the bytes that document 02, request 13, says. Assumes nothing.
 use mathlib.Core.Path.{refl}
 use Rattle.bson.specs.Bytes.{le32, bytes}
 use Rattle.bson.specs.Utf8.{rows, utf8}

@@ -4,7 +4,7 @@ use native.Mathlib.Omega.{arith}
 use Rattle.bson.specs.Step.{iterateUnder, elements}
 use Rattle.theorems.specs.Accounted.{extent, YieldedBytes}
 use Rattle.theorems.proofs.Told.{step-lies, scope-size, accounted, adds-from, told-from, overruns}
-use Rattle.theorems.proofs.NotBehind.{check-not-behind}
+use Rattle.theorems.proofs.Refused.{check-met}
 
 pub yielded-bytes : YieldedBytes
 yielded-bytes limit s n a =
@@ -16,7 +16,7 @@ yielded-bytes limit s n a =
         add-up = adds-from limit s n a 4 (extent (elements i)) i refl x;
         overrun = overruns limit s n a 4 i (omega arith) x;
         told = told-from limit s n a 4 i x;
-        refused = check-not-behind limit s n a;
+        refused = check-met limit s n a;
       };
       steps = step-lies limit s;
       scopes = scope-size limit s;

@@ -26,5 +26,5 @@ pub mod ReadBack
 pub mod Builds
 pub mod Refusals
 pub mod Told
-pub mod NotBehind
+pub mod Refused
 pub mod Accounted

@@ -3,7 +3,7 @@ use Prim.Native.Nat.{ℕ, _+_, _-_, _≤_, _<_}
 use mathlib.Core.Path.{_≡_}
 use mathlib.Core.List.{List, [], _∷_}
 use mathlib.Core.Bool.{Bool, false}
-use mathlib.Core.Logic.{_↔_}
+use mathlib.Core.Logic.{_↔_, _⊎_}
 use lib.ListN.{length, drop}
 use Rattle.bson.specs.Answer.{gives, refuses}
 use Rattle.bson.specs.Bytes.{le32, part, bytes}
@@ -49,6 +49,16 @@ RefusedBy n (more e rest) = RefusedBy n rest
 abbrev pub Overrun : List ℕ → ℕ → Iteration → Type 0
 Overrun s from i = RefusedBy 4 i ↔ (terminator s < from + extent (elements i))
 
+-- an offset at an element, in it, or where it ends: there 4 is met of a document inside that reaches past its own terminator
+abbrev pub OfElement : Element → ℕ → Type 0
+OfElement e p = (e .place ≤ p) × (p ≤ past e)
+
+-- a refusal, by its number and its place, that is of an element, or that of the iteration itself
+abbrev pub Met : Iteration → ℕ → ℕ → Type 0
+Met ended n p = ⊥
+Met (broken number place) n p = (n ≡ number) × (p ≡ place)
+Met (more e rest) n p = OfElement e p ⊎ Met rest n p
+
 -- an iteration from offset 4 on
 pub record Told (limit : Limit) (s : List ℕ) (i : Iteration) : Type 0 where
   pub accounted : Accounted limit s 4 i
@@ -56,8 +66,8 @@ pub record Told (limit : Limit) (s : List ℕ) (i : Iteration) : Type 0 where
   pub overrun : Overrun s 4 i
   -- the bytes of its elements, one behind the other, are those of the slice
   pub told : spans s (elements i) ≡ bytes s (part 4 (extent (elements i)))
-  -- what the check refuses, at whatever depth, does not lie behind where they end
-  pub refused : (strict : Bool) (number place : ℕ) → checkUnder limit strict s ≡ refuses number place → place ≤ 4 + extent (elements i)
+  -- what the check refuses, at whatever depth, is met there
+  pub refused : (strict : Bool) (number place : ℕ) → checkUnder limit strict s ≡ refuses number place → Met i number place
 
 pub record EveryYieldedByte (limit : Limit) (s : List ℕ) : Type 0 where
   pub iteration : Told limit s (iterateUnder limit s 4)
