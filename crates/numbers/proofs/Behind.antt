@@ -1,6 +1,5 @@
--- What a step answers C in numbers lies one behind the other, an open cursor ends at the terminator, and in an admitted document a step is
--- refused where it begins (document 02, request 13; document 01, module 8). Assumes nothing.
-use Prim.Native.Nat.{ℕ, _+_, _<_}
+-- Proof that the numbers of a step lie one behind the other (document 02, request 13; document 01, module 8). Assumes nothing.
+use Prim.Native.Nat.{ℕ, _<_}
 use mathlib.Core.Path.{_≡_, refl, sym, _∙_}
 use mathlib.Core.List.{List}
 use mathlib.Core.Bool.{true, false, true≢false}
@@ -8,26 +7,14 @@ use native.Mathlib.Omega.{arith}
 use borrow.Author.Tests.{ne-eqb}
 use Rattle.bson.specs.Answer.{Answer, gives, refuses}
 use Rattle.bson.specs.Cstring.{Limit}
-use Rattle.bson.specs.Step.{terminator, admitted, cursor, Step, yield, end, stepUnder, after}
+use Rattle.bson.specs.Step.{admitted, cursor, Step, yield, end, stepUnder, after}
 use Rattle.laws.proofs.AdvanceLaws.{ended-at, refused-place, step-unadmitted}
 use Rattle.laws.proofs.AnswerLaws.{oneOf, refused-in}
 use Rattle.theorems.proofs.Refusals.{NoZero, no-zero-under, steps, step-in, admissions, admitted-in}
 use Rattle.theorems.proofs.Told.{step-lies}
 use Rattle.numbers.specs.Numbers.{stepped}
+use Rattle.numbers.specs.Behind.{StepSays}
 use Rattle.numbers.specs.declared.StepNumbers.{StepNumbers}
-
--- the numbers of an element that a step from an offset on yields
-pub record Behind (offset : ℕ) (v : StepNumbers) : Type 0 where
-  pub place : v .place ≡ offset
-  pub key : v .«key_offset» ≡ v .place + 1
-  pub value : v .offset ≡ v .«key_offset» + v .«key_size» + 1
-  pub next : v .next ≡ v .offset + v .size
-
--- and of each step with an open cursor
-pub record StepSays (s : List ℕ) (offset : ℕ) (v : StepNumbers) : Type 0 where
-  pub yields : v .number ≡ 0 → v .ended ≡ 0 → Behind offset v
-  pub ends : v .number ≡ 0 → v .ended ≡ 1 → offset ≡ terminator s
-  pub refused : 3 < v .number → v .place ≡ offset
 
 -- admission refuses by no number above 3
 admission-low : (n : ℕ) → oneOf admissions n ≡ true → 3 < n → ⊥
