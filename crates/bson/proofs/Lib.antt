@@ -1,5 +1,6 @@
 pub mod Vectors
 pub mod Decided
+pub mod Utf8Points
 pub mod LimitPoints
 pub mod SpanPoints
 pub mod Report

@@ -20,6 +20,7 @@ pub mod Join
 pub mod Report
 pub mod Vectors
 pub mod Decided
+pub mod Utf8Points
 pub mod LimitPoints
 pub mod SpanPoints
 pub mod GrammarPoints
