@@ -5,8 +5,12 @@ use mathlib.Core.List.{List}
 use Rattle.bson.specs.Answer.{Answer, gives, refuses}
 use Rattle.bson.specs.Writer.{State, desk, Written, written}
 
+-- of two promises over the same arguments: an answer that the one allows is each that the other allows
+abbrev pub Agree : {A S : Type 0} → (A → S → Type 0) → (A → S → Type 0) → Type 0
+Agree {A} {S} P Q = (r₁ r₂ : A) (s₁ s₂ : S) → P r₁ s₁ → Q r₂ s₂ → r₁ ≡ r₂
+
 abbrev pub Determined : {A S : Type 0} → (A → S → Type 0) → Type 0
-Determined {A} {S} P = (r₁ r₂ : A) (s₁ s₂ : S) → P r₁ s₁ → P r₂ s₂ → r₁ ≡ r₂
+Determined P = Agree P P
 
 -- of a part that is handed back, the bytes; where they lie says its twin
 abbrev pub DeterminedPart : {A B S : Type 0} → (A → B) → (A → S → Type 0) → Type 0
