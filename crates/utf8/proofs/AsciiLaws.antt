@@ -11,7 +11,7 @@ use lib.ListN.{length, getD, drop, drop-of-length-le}
 use lib.Seq.{drop-cons}
 use borrow.Author.Tests.{lt-ltb, le-ltb, ltb-true, ltb-false}
 use Rattle.laws.proofs.Common.{split}
-use Rattle.utf8.specs.Chars.{asciiOf}
+use Rattle.utf8.specs.Ascii.{asciiOf}
 
 -- an `or` is below 128 where both are
 or-small : (a b : ℕ) → ltb (bitOr a b) 128 ≡ ltb a 128 && ltb b 128

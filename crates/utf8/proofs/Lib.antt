@@ -1,4 +1,4 @@
+pub mod Agree
 pub mod AsciiLaws
-pub mod CharsLaws
 pub mod Determined
 pub mod TextLaws

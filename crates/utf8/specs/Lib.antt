@@ -1,1 +1,1 @@
-pub mod Chars
+pub mod Ascii

@@ -1,3 +1,3 @@
 pub mod Determined
-pub mod SameLaws
+pub mod EveryLaws
 pub mod WindowLaws

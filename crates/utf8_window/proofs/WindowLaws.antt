@@ -10,23 +10,11 @@ use lib.ListN.{length, getD, drop, drop-of-length-le, List·getD-eq-default}
 use lib.Seq.{drop-cons}
 use borrow.Author.Tests.{ltb-true, ltb-false}
 use Rattle.bson.specs.Bytes.{AreBytes}
-use Rattle.bson.specs.Utf8.{Range, _to_, tail, rows, Left, bad, left, next, read, whole, utf8}
-use Rattle.laws.proofs.Common.{split, below, below-at, both-left, both-right}
+use Rattle.bson.specs.Utf8.{Range, _to_, rows, Left, bad, left, next, read, whole, utf8}
+use Rattle.laws.proofs.Common.{split, both-left, both-right, beq-eq, below, below-at}
+use Rattle.laws.proofs.Utf8Laws.{leftovers, sameList}
 use Rattle.utf8_window.specs.Window.{asked, strayBehind, stray}
-use Rattle.utf8_window.proofs.SameLaws.{beq-eq, holds, fails, sameList, same-bools-eq, among, every, every-at}
-
--- what may be left of a row
-abbrev leftovers : List (List Range)
-leftovers =
-    []
-    ∷ (tail ∷ [])
-    ∷ (tail ∷ tail ∷ [])
-    ∷ (tail ∷ tail ∷ tail ∷ [])
-    ∷ ((0xA0 to 0xBF) ∷ tail ∷ [])
-    ∷ ((0x80 to 0x9F) ∷ tail ∷ [])
-    ∷ ((0x90 to 0xBF) ∷ tail ∷ tail ∷ [])
-    ∷ ((0x80 to 0x8F) ∷ tail ∷ tail ∷ [])
-    ∷ []
+use Rattle.utf8_window.proofs.EveryLaws.{holds, fails, same-bools-eq, among, every-at}
 
 -- what three bytes say: whether one, two or three more are asked for, and whether the nearest is E0, ED, F0 or F4
 abbrev marks : ℕ → ℕ → ℕ → List Bool

@@ -4,7 +4,7 @@ use mathlib.Core.Path.{refl, sym, _∙_}
 use native.Mathlib.Omega.{arith}
 use borrow.Author.Tests.{not-false}
 use lib.ListN.{length}
-use Rattle.utf8.proofs.TextLaws.{At, at-rest, at-block}
+use Rattle.utf8.proofs.TextLaws.{At, at-rest, at-block, at-ascii}
 use Rattle.utf8.proofs.by_eights.Statement.{statement}
 use Rattle.utf8.proofs.by_eights.Tie as tie
 
@@ -35,20 +35,20 @@ part-ascii-end c = omega arith
 ascii-requires : tie.Need-ascii-requires Inv-loop μ-loop
 ascii-requires c κs = tt
 
-sub-by-chars : tie.Need-sub-by-chars Inv-loop μ-loop
-sub-by-chars c = omega arith
+sub-mixed : tie.Need-sub-mixed Inv-loop μ-loop
+sub-mixed c = omega arith
 
-part-by-chars-start : tie.Need-part-by-chars-start Inv-loop μ-loop
-part-by-chars-start c = omega arith
+part-mixed-start : tie.Need-part-mixed-start Inv-loop μ-loop
+part-mixed-start c = omega arith
 
-part-by-chars-end : tie.Need-part-by-chars-end Inv-loop μ-loop
-part-by-chars-end c = omega arith
+part-mixed-end : tie.Need-part-mixed-end Inv-loop μ-loop
+part-mixed-end c = omega arith
 
-by-chars-requires : tie.Need-by-chars-requires Inv-loop μ-loop
-by-chars-requires c κs = tt
+mixed-requires : tie.Need-mixed-requires Inv-loop μ-loop
+mixed-requires c κs = tt
 
 returns : tie.Need-returns Inv-loop μ-loop
-returns c = at-rest (c .before .before .before .before .before .before .loop .inv) (c .by-chars .ensures)
+returns c = at-rest (c .before .before .before .before .before .before .loop .inv) (c .mixed .ensures)
 
 loop-less : tie.Need-loop-less Inv-loop μ-loop
 loop-less c = omega arith
@@ -58,20 +58,28 @@ loop-again c =
     let e = sym (c .before .ascii .ensures) ∙ not-false _ (c .if1 .left) in
     at-block 8 8 (omega arith) (c .before .before .before .before .loop .inv) (omega arith) e
 
-sub-by-chars-2 : tie.Need-sub-by-chars-2 Inv-loop μ-loop
-sub-by-chars-2 c = omega arith
-
-part-by-chars-start-2 : tie.Need-part-by-chars-start-2 Inv-loop μ-loop
-part-by-chars-start-2 c = omega arith
-
-part-by-chars-end-2 : tie.Need-part-by-chars-end-2 Inv-loop μ-loop
-part-by-chars-end-2 c = omega arith
-
-by-chars-requires-2 : tie.Need-by-chars-requires-2 Inv-loop μ-loop
-by-chars-requires-2 c κs = tt
+ends-in-ascii-requires : tie.Need-ends-in-ascii-requires Inv-loop μ-loop
+ends-in-ascii-requires c κs = tt
 
 returns-2 : tie.Need-returns-2 Inv-loop μ-loop
-returns-2 c = at-rest (c .before .before .before .loop .inv) (c .by-chars2 .ensures)
+returns-2 c =
+    let e = sym (c .before .ends-in-ascii .ensures) ∙ c .if2 .taken in
+    at-ascii (c .before .before .before .loop .inv) (omega arith) e
+
+sub-mixed-2 : tie.Need-sub-mixed-2 Inv-loop μ-loop
+sub-mixed-2 c = omega arith
+
+part-mixed-start-2 : tie.Need-part-mixed-start-2 Inv-loop μ-loop
+part-mixed-start-2 c = omega arith
+
+part-mixed-end-2 : tie.Need-part-mixed-end-2 Inv-loop μ-loop
+part-mixed-end-2 c = omega arith
+
+mixed-requires-2 : tie.Need-mixed-requires-2 Inv-loop μ-loop
+mixed-requires-2 c κs = tt
+
+returns-3 : tie.Need-returns-3 Inv-loop μ-loop
+returns-3 c = at-rest (c .before .before .before .before .before .loop .inv) (c .mixed2 .ensures)
 
 pub by-eights-spec : {M : Type 1} → statement M
 by-eights-spec =
@@ -86,15 +94,17 @@ by-eights-spec =
     part-ascii-start
     part-ascii-end
     ascii-requires
-    sub-by-chars
-    part-by-chars-start
-    part-by-chars-end
-    by-chars-requires
+    sub-mixed
+    part-mixed-start
+    part-mixed-end
+    mixed-requires
     returns
     loop-less
     loop-again
-    sub-by-chars-2
-    part-by-chars-start-2
-    part-by-chars-end-2
-    by-chars-requires-2
-    returns-2)
+    ends-in-ascii-requires
+    returns-2
+    sub-mixed-2
+    part-mixed-start-2
+    part-mixed-end-2
+    mixed-requires-2
+    returns-3)
