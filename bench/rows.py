@@ -24,6 +24,11 @@ TEXTS = {
     "mixed text": "Grüße aus 520 km Höhe, heard at Tromsø and Hōfu: 7412 mV, 4.5 °C. ",
     "Cyrillic": "Спутник на орбите, батарея заряжена, все системы в норме. ",
 }
+SHORT_TEXTS = {
+    "15 bytes of ASCII": "nominal, mode 2",
+    "40 bytes of ASCII": "The battery is at 7412 mV, and charging.",
+    "29 bytes of Cyrillic": "Спутник: в норме",
+}
 GROWING = [2**power // 20 for power in range(10, 21, 2)]  # elements of about 20 bytes: 1 KB to 1 MB
 
 # ---- the documents
@@ -56,14 +61,19 @@ def elements(count):
     return doc(*map(small, range(count)))
 
 
+def one_text(words):
+    return doc(element(0x02, "note", text(words)))
+
+
 def long_text(words):
     """A document of one text, these words again and again up to the size."""
-    return doc(element(0x02, "note", text(words * (TEXT_SIZE // len(words.encode())))))
+    return one_text(words * (TEXT_SIZE // len(words.encode())))
 
 
 def documents():
     """The documents by their names."""
     made = {"beacon": beacon(), "writable": writable(beacon()), "many": elements(3000), "deep": nested(200, key="d")}
+    made |= {name: one_text(words) for name, words in SHORT_TEXTS.items()}
     made |= {name: long_text(words) for name, words in TEXTS.items()}
     return made | {f"{count} elements": elements(count) for count in GROWING}
 
@@ -88,6 +98,7 @@ def rows():
         Row("check", "many", "", "3,000 elements: whole check"),
         Row("lookup", "many", "t0002999", "3,000 elements: lookup, last key"),
         Row("check", "deep", "", "200 levels: whole check"),
+        *(Row("check", name, "", f"{name}: whole check") for name in SHORT_TEXTS),
         *(Row("check", name, "", f"60 KB of {name}: whole check") for name in TEXTS),
     ]
 
