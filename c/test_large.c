@@ -1,4 +1,5 @@
-/* Slices past 2^31 and 2^32 bytes: no length is cut to 32 bits, and room ends at 2,147,483,647. Only the pages that are touched exist. */
+/* Slices past 2^31 and 2^32 bytes: no length is cut to 32 bits, room ends at 2,147,483,647, and an array's keys have up to ten digits.
+ * Only the pages that are touched exist. */
 #define _DEFAULT_SOURCE
 #include "samples.h"
 #include "test.h"
@@ -68,6 +69,31 @@ static void long_data(uint8_t *out, const uint8_t *data) {
     EXPECT_WRITTEN(fringewell_append_binary(&writer, out, SPAN, NOTHING, 0, data, ROOM), FRINGEWELL_NO_ROOM, 0);
 }
 
+/* The key that the writer makes for an element with so many before it in its array, behind 2,000,000,000 bytes. */
+static void key_of(uint8_t *out, uint32_t count) {
+    static const uint32_t used = 2000000000;
+    char element[16] = {FRINGEWELL_TAG_NULL};
+    size_t size = 2 + (size_t)snprintf(element + 1, sizeof element - 1, "%" PRIu32, count);
+    fringewell_writer writer = fringewell_writer_new();
+    EXPECT_WRITTEN(fringewell_writer_open(&writer, out, SPAN), 0, 4);
+    EXPECT_WRITTEN(fringewell_writer_open_array(&writer, out, SPAN, NOTHING), 0, 10);
+    writer.words[0] = used;
+    writer.words[5] = count;
+    out[used + size] = 0xEE;
+    EXPECT_WRITTEN(fringewell_append_null(&writer, out, SPAN, NOTHING), 0, used + size);
+    EXPECT(memcmp(out + used, element, size) == 0);
+    EXPECT_EQUAL(out[used + size], 0xEE);
+    EXPECT_EQUAL(writer.words[5], count + 1);
+}
+
+/* Keys around each multiple of each power of ten: as long as the number is, and each digit in its place. */
+static void keys(uint8_t *out) {
+    for (uint64_t power = 1; power <= 1000000000; power *= 10)
+        for (uint64_t first = power; first < 10 * power && first < 1999999999; first += power)
+            for (uint64_t count = first - 1; count <= first + 1; count++)
+                key_of(out, (uint32_t)count);
+}
+
 int main(void) {
     uint8_t *slice = pages(), *out = pages();
     EXPECT(slice != NULL && out != NULL);
@@ -76,6 +102,7 @@ int main(void) {
         joining(slice, out);
         writing(out);
         long_data(out, slice);
+        keys(out);
         munmap(slice, SPAN);
         munmap(out, SPAN);
     }
