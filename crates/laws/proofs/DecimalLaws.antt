@@ -1,24 +1,22 @@
 -- How many digits a number has, that they name it, and that they are a valid key (document 01, "Writer and joining": keys "0, 1, 2 on in
 -- decimal"). Assumes nothing.
 use Prim.Native.Nat.{ℕ, zero, suc, _+_, _-_, _*_, _/_, _%_, _^_, _≤_, _<_}
-use mathlib.Core.Path.{_≡_, refl, sym, ap, _∙_}
+use mathlib.Core.Path.{_≡_, refl, ap, _∙_}
 use mathlib.Core.List.{List, [], _∷_, _++_}
 use mathlib.Core.Bool.{true}
-use native.Mathlib.Nat.{add-comm, div-lt-self, div-lt-iff-lt-mul, pow-suc}
-use native.Mathlib.Numerals.{add-one, sub-one}
+use native.Mathlib.Nat.{div-lt-self, div-lt-iff-lt-mul, le-div-iff-mul-le, mul-assoc, one-le-pow, pow-suc}
+use native.Mathlib.Numerals.{add-one}
 use native.Mathlib.Omega.{arith}
 use lib.Dec.{ltb}
-use lib.ListN.{length, set, length-append}
+use lib.ListN.{length, length-append}
 use borrow.Author.Tests.{lt-ltb, le-ltb, ltb-true, ltb-false, eq-eqb, ne-eqb}
 use Rattle.bson.specs.Utf8.{Left, left, read, whole, utf8}
 use Rattle.bson.specs.Cstring.{firstZero, validCstr}
 use Rattle.bson.specs.Decimal.{digits, widthFor, width, decimal}
-use Rattle.bson.specs.Output.{put}
 use Rattle.laws.proofs.Common.{split}
-use Rattle.laws.proofs.OutputLaws.{put-back}
 use Rattle.laws.proofs.Utf8Laws.{next-ascii}
 
-pub tenth : (n : ℕ) → 10 ≤ n → n / 10 < n
+tenth : (n : ℕ) → 10 ≤ n → n / 10 < n
 tenth n h = div-lt-self (omega arith) (omega arith)
 
 -- turns enough are enough
@@ -30,11 +28,11 @@ width-for (suc j) (suc k) n h g =
     split (ltb n 10) (λ e. rw e)
     (λ e. let l = tenth n (ltb-false n 10 e) in rw e (ap (λ (w : ℕ). 1 + w) (width-for j k (n / 10) (omega arith) (omega arith))))
 
-pub width-digit : (n : ℕ) → n < 10 → width n ≡ 1
+width-digit : (n : ℕ) → n < 10 → width n ≡ 1
 unfolding width widthFor
 width-digit n h = simp (lt-ltb n 10 h)
 
-pub width-eq : (n : ℕ) → 10 ≤ n → width n ≡ 1 + width (n / 10)
+width-eq : (n : ℕ) → 10 ≤ n → width n ≡ 1 + width (n / 10)
 unfolding width widthFor
 width-eq n h = rw (le-ltb n 10 h) (ap (λ (w : ℕ). 1 + w) (width-for n (suc (n / 10)) (n / 10) (tenth n h) (omega arith)))
 
@@ -52,6 +50,24 @@ width-within (suc k) n h =
     (λ e. omega (arith, width-digit n (ltb-true n 10 e)))
     (λ e. omega (arith, width-eq n (ltb-false n 10 e), width-within k (n / 10) (div-lt-iff-lt-mul (omega arith) .1 (rw (← pow-suc 10 (suc k)) h))))
 
+-- one that is not below it has more than it has zeros
+pub width-above : (k n : ℕ) → 10 ^ k ≤ n → suc k ≤ width n
+width-above zero n h = width-positive n
+width-above (suc k) n h =
+    let z : 10 ^ k ≤ n / 10 = le-div-iff-mul-le {k = 10} (omega arith) .1 (rw (← pow-suc 10 k) h) in
+    let p : 1 ≤ 10 ^ k = one-le-pow k 10 (omega arith) in
+    split (ltb n 10)
+    (λ e. let l = ltb-true n 10 e in let y : n / 10 ≡ 0 = omega arith in absurd (omega arith))
+    (λ e. omega (arith, width-eq n (ltb-false n 10 e), width-above k (n / 10) z))
+
+pub width-is : (k n : ℕ) → 1 ≤ k → k ≤ width n → n < 10 ^ k → k ≡ width n
+width-is zero n p l h = absurd (omega arith)
+width-is (suc k) n p l h = omega (arith, width-within k n h)
+
+pub width-holds : (n : ℕ) → n < 10 ^ width n
+width-holds n =
+    split (ltb n (10 ^ width n)) (λ e. ltb-true _ _ e) (λ e. absurd (omega (arith, width-above (width n) n (ltb-false _ _ e))))
+
 pub width-small : (n : ℕ) → n < 2 ^ 64 → width n ≤ 20
 width-small n h = width-within 19 n (omega arith)
 
@@ -64,19 +80,24 @@ pub length-decimal : (n : ℕ) → length (decimal n) ≡ width n
 unfolding decimal
 length-decimal n = length-digits (width n) n
 
-digits-step : (i m : ℕ) → 0 < i → digits i m ≡ digits (i - 1) (m / 10) ++ ((48 + m % 10) ∷ [])
-unfolding digits
-digits-step zero m h = absurd (omega arith)
-digits-step (suc i) m h = simp (sub-one)
+-- ten times a number, and a rest
+tens : (k d r : ℕ) → d * 10 ^ suc k + r ≡ 10 * (d * 10 ^ k) + r
+tens k d r = rw (pow-suc 10 k, ← mul-assoc d (10 ^ k) 10) (omega arith)
 
--- one turn: the last digit stored, the rest is left to do
-pub digit-turn : (buffer : List ℕ) (at i m : ℕ) → 0 < i → at + i ≤ length buffer
-    → put (set buffer (at + (i - 1)) (48 + m % 10)) at (digits (i - 1) (m / 10)) ≡ put buffer at (digits i m)
-digit-turn buffer at i m h g =
-    let e : length (digits (i - 1) (m / 10)) ≡ i - 1 = length-digits (i - 1) (m / 10) in
-    ap (λ (k : ℕ). put (set buffer (at + k) (48 + m % 10)) at (digits (i - 1) (m / 10))) (sym e)
-    ∙ put-back buffer at (digits (i - 1) (m / 10)) (48 + m % 10) (omega arith)
-    ∙ ap (put buffer at) (sym (digits-step i m h))
+-- a number is its first digit times a power of ten, and the rest: its digits are this one and those of the rest
+pub digits-lead : (k d r : ℕ) → d < 10 → r < 10 ^ k → digits (suc k) (d * 10 ^ k + r) ≡ (48 + d) ∷ digits k r
+unfolding digits
+digits-lead zero d r h g =
+    let e : d * 10 ^ 0 + r ≡ d = omega arith in
+    let f : d % 10 ≡ d = omega arith in
+    rw (e, f)
+digits-lead (suc k) d r h g =
+    let q : r / 10 < 10 ^ k = div-lt-iff-lt-mul {k = 10} (omega arith) .1 (rw (← pow-suc 10 k) g) in
+    let t = tens k d r in
+    let x = d * 10 ^ k in
+    let e : (d * 10 ^ suc k + r) / 10 ≡ x + r / 10 = rw t (omega arith) in
+    let f : (d * 10 ^ suc k + r) % 10 ≡ r % 10 = rw t (omega arith) in
+    rw (e, f, digits-lead k d (r / 10) h q)
 
 -- the digits name the number
 
@@ -99,20 +120,9 @@ digits-named (suc k) n h =
     let r = digits-named k (n / 10) (div-lt-iff-lt-mul (omega arith) .1 (rw (← pow-suc 10 k) h)) in
     named-last (digits k (n / 10)) 0 (48 + n % 10) ∙ omega arith
 
-width-holds : (k n : ℕ) → n < k → n < 10 ^ widthFor k n
-unfolding widthFor
-width-holds zero n h = absurd (omega arith)
-width-holds (suc k) n h =
-    split (ltb n 10) (λ e. rw e (ltb-true n 10 e))
-    (λ e. let l = tenth n (ltb-false n 10 e) in
-    let w = widthFor k (n / 10) in
-    let z : 0 < 10 = omega arith in
-    let f : n < 10 ^ w * 10 = div-lt-iff-lt-mul z .0 (width-holds k (n / 10) (omega arith)) in
-    rw (e, add-comm 1 w, add-one, pow-suc 10 w) f)
-
 pub decimal-named : (n : ℕ) → named (decimal n) ≡ n
-unfolding decimal width
-decimal-named n = digits-named (width n) n (width-holds (suc n) n (omega arith))
+unfolding decimal
+decimal-named n = digits-named (width n) n (width-holds n)
 
 -- the digits are a valid key
 

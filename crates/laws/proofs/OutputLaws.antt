@@ -1,14 +1,15 @@
 -- What follows from the definition of a lent buffer: one run after the other is one run, and the bytes behind stay (document 01, "What
 -- every answer is bound to"). Assumes nothing.
-use Prim.Native.Nat.{ℕ, suc, _+_, _-_, _≤_, _<_}
+use Prim.Native.Nat.{ℕ, _+_, _-_, _≤_, _<_}
 use mathlib.Core.Path.{_≡_, refl, sym, ap, subst, _∙_}
 use mathlib.Core.Bool.{true, false}
 use mathlib.Core.List.{List, [], _∷_, _++_, append-assoc}
 use native.Mathlib.Nat.{add-assoc, add-zero}
+use native.Mathlib.Numerals.{add-one}
 use native.Mathlib.Omega.{arith}
 use lib.Dec.{leb}
 use lib.ListN.{length, take, drop, set, length-append, length-take, length-drop, take-append-drop}
-use lib.Seq.{take-at, drop-at, set-split, drop-drop, length-take-le, take-set-le, take-append-le, take-append-seam, drop-append-le, drop-append-add}
+use lib.Seq.{take-at, drop-at, set-split, drop-drop, length-take-le, take-append-le, take-append-seam, drop-append-le, drop-append-add}
 use lib.Seq.{take-length, paste}
 use borrow.Author.Tests.{le-leb, leb-true}
 use Rattle.laws.proofs.Common.{split}
@@ -26,18 +27,6 @@ put-nil buffer at = rw (add-zero) (take-append-drop at buffer)
 pub put-paste : (buffer : List ℕ) (at : ℕ) (s : List ℕ) → paste buffer at s (length s) ≡ put buffer at s
 unfolding put
 put-paste buffer at s = simp (take-length, append-assoc)
-
--- the byte behind a run, stored before it
-pub put-back : (buffer : List ℕ) (at : ℕ) (s : List ℕ) (d : ℕ) → at + length s < length buffer
-    → put (set buffer (at + length s) d) at s ≡ put buffer at (s ++ (d ∷ []))
-unfolding put
-put-back buffer at s d h =
-    let e : at + length (s ++ (d ∷ [])) ≡ suc (at + length s) = simp length-append (omega arith) in
-    rw (take-set-le at buffer (at + length s) d (omega arith), set-split buffer (at + length s) d h)
-    (ap (λ (l : List ℕ). take at buffer ++ (s ++ l))
-    (drop-at (take (at + length s) buffer) (d ∷ drop (suc (at + length s)) buffer) (at + length s)
-    (length-take-le (at + length s) buffer (omega arith)))
-    ∙ rw (e, append-assoc))
 
 -- what stands in front of a run, up to its end, and behind it
 
@@ -71,6 +60,16 @@ put-put buffer at s t fits =
     let before = take-put buffer at s (omega arith) in
     let after = drop-put buffer at s (omega arith) (at + length s + length t) (omega arith) in
     rw (before, after) (simp (length-append, append-assoc, add-assoc))
+
+pub put-byte : (buffer : List ℕ) (at d : ℕ) → at < length buffer → set buffer at d ≡ put buffer at (d ∷ [])
+unfolding put
+put-byte buffer at d h = rw add-one (set-split buffer at d h)
+
+-- the byte in front of a run, stored before it
+pub put-lead : (buffer : List ℕ) (at d : ℕ) (s : List ℕ) → at + (1 + length s) ≤ length buffer
+    → put (set buffer at d) (at + 1) s ≡ put buffer at (d ∷ s)
+put-lead buffer at d s h =
+    ap (λ (b : List ℕ). put b (at + 1) s) (put-byte buffer at d (omega arith)) ∙ put-put buffer at (d ∷ []) s h
 
 -- in the first of two lists
 put-front : (a b : List ℕ) (at : ℕ) (s : List ℕ) → at + length s ≤ length a → put (a ++ b) at s ≡ put a at s ++ b

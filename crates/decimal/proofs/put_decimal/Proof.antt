@@ -9,7 +9,7 @@ use borrow.Author.Tests.{leb-true}
 use Rattle.bson.specs.Decimal.{digits, width, decimal}
 use Rattle.bson.specs.Output.{put}
 use Rattle.laws.proofs.OutputLaws.{text-put, text-left}
-use Rattle.laws.proofs.DecimalLaws.{length-decimal}
+use Rattle.laws.proofs.DecimalLaws.{width-positive, width-holds, length-decimal}
 use Rattle.decimal.proofs.put_decimal.Statement.{statement}
 use Rattle.decimal.proofs.put_decimal.Tie as tie
 
@@ -25,7 +25,13 @@ fits-requires : tie.Need-fits-requires
 fits-requires c κs = search needs
 
 put-digits-requires : tie.Need-put-digits-requires
-put-digits-requires c κs = leb-true _ _ (sym (c .before .before .fits2 .ensures) ∙ c .before .if1 .taken)
+put-digits-requires c κs =
+    let w = c .before .before .before .width-of .ensures in (
+      leb-true _ _ (sym (c .before .before .fits2 .ensures) ∙ c .before .if1 .taken),
+      rw (w .0) (width-positive _),
+      w .1,
+      rw (w .0) (width-holds _),
+    )
 
 add-result : tie.Need-add-result
 add-result c =

@@ -1,37 +1,68 @@
--- `decimal::width_of` meets its contract: each turn takes one digit off and counts it. Assumes nothing.
-use Prim.Native.Nat.{_+_}
-use mathlib.Core.Path.{_≡_, refl}
+-- `decimal::width_of` meets its contract: at every turn the number has k digits or more. Assumes nothing.
+use Prim.Native.Nat.{_-_, _≤_}
 use native.Mathlib.Omega.{arith}
+use borrow.Author.Needs.{needs}
 use Rattle.bson.specs.Decimal.{width}
-use Rattle.laws.proofs.DecimalLaws.{tenth, width-digit, width-eq, width-positive, width-small}
+use Rattle.laws.proofs.DecimalLaws.{width-positive, width-small, width-above, width-is}
 use Rattle.decimal.proofs.width_of.Statement.{statement}
 use Rattle.decimal.proofs.width_of.Tie as tie
 
 abbrev Inv-loop : tie.InvT-loop
-Inv-loop n m₀ k₀ m k = k + width m ≡ 1 + width n
+Inv-loop n powers k₀ k = (1 ≤ k) × (k ≤ 20) × (k ≤ width n)
 
 abbrev μ-loop : tie.MeasureT-loop
-μ-loop n m₀ k₀ m k = m
+μ-loop n powers k₀ k = 20 - k
+
+powers-of-ten-requires : tie.Need-powers-of-ten-requires Inv-loop μ-loop
+powers-of-ten-requires c κs = search needs
 
 loop-holds : tie.Need-loop-holds Inv-loop μ-loop
-loop-holds c = refl
+loop-holds c = (omega arith, omega arith, width-positive (c .before .args .n))
 
-add-k : tie.Need-add-k Inv-loop μ-loop
-add-k c =
-    let s = c .before .before in
-    omega (arith, width-positive (c .before .loop .m), width-small (s .args .n) (omega arith))
+mul-if1 : tie.Need-mul-if1 Inv-loop μ-loop
+mul-if1 c = search needs
 
-loop-less : tie.Need-loop-less Inv-loop μ-loop
-loop-less c = tenth (c .before .loop .m) (omega arith)
-
-loop-again : tie.Need-loop-again Inv-loop μ-loop
-loop-again c = omega (arith, width-eq (c .before .loop .m) (omega arith))
+array-read-if1 : tie.Need-array-read-if1 Inv-loop μ-loop
+array-read-if1 c = search needs
 
 returns : tie.Need-returns Inv-loop μ-loop
 returns c =
-    let s = c .before .before in
-    let e = width-digit (c .before .loop .m) (omega arith) in
-    (omega arith, omega (arith, width-small (s .args .n) (omega arith)))
+    let l = c .before .before .loop in
+    let t = c .before .loop-test .taken in
+    let power = c .before .before .before .powers-of-ten .ensures .power-at in
+    (width-is (l .k) _ (l .inv .0) (l .inv .2) (rw (← power (l .k) (omega arith)) (c .if1 .taken)), l .inv .1)
+
+add-k : tie.Need-add-k Inv-loop μ-loop
+add-k c = search needs
+
+loop-less : tie.Need-loop-less Inv-loop μ-loop
+loop-less c = search needs
+
+loop-again : tie.Need-loop-again Inv-loop μ-loop
+loop-again c =
+    let l = c .before .before .loop in
+    let t = c .before .loop-test .taken in
+    let power = c .before .before .before .powers-of-ten .ensures .power-at in
+    let n = c .before .before .before .before .args .n in
+    (omega arith, omega arith, omega (arith, width-above (l .k) n (rw (← power (l .k) (omega arith)) (c .if1 .left))))
+
+returns-2 : tie.Need-returns-2 Inv-loop μ-loop
+returns-2 c =
+    let n = c .before .before .before .args .n in
+    (omega (arith, c .before .loop .inv, width-small n (omega arith)), omega arith)
 
 pub width-of-spec : {M : Type 1} → statement M
-width-of-spec = tie.close (tie.spec Inv-loop μ-loop loop-holds add-k loop-less loop-again returns)
+width-of-spec =
+    tie.close
+    (tie.spec
+    Inv-loop
+    μ-loop
+    powers-of-ten-requires
+    loop-holds
+    mul-if1
+    array-read-if1
+    returns
+    add-k
+    loop-less
+    loop-again
+    returns-2)
