@@ -29,6 +29,7 @@ SHORT_TEXTS = {
     "40 bytes of ASCII": "The battery is at 7412 mV, and charging.",
     "29 bytes of Cyrillic": "Спутник: в норме",
 }
+NUMBERS = 200  # in the array
 GROWING = [2**power // 20 for power in range(10, 21, 2)]  # elements of about 20 bytes: 1 KB to 1 MB
 
 # ---- the documents
@@ -61,6 +62,11 @@ def elements(count):
     return doc(*map(small, range(count)))
 
 
+def numbers(count):
+    """A document with an array of so many int32."""
+    return doc(element(0x04, "cells", doc(*(element(INT32, str(i), le(7919 * i)) for i in range(count)))))
+
+
 def one_text(words):
     return doc(element(0x02, "note", text(words)))
 
@@ -73,6 +79,7 @@ def long_text(words):
 def documents():
     """The documents by their names."""
     made = {"beacon": beacon(), "writable": writable(beacon()), "many": elements(3000), "deep": nested(200, key="d")}
+    made["numbers"] = numbers(NUMBERS)
     made |= {name: one_text(words) for name, words in SHORT_TEXTS.items()}
     made |= {name: long_text(words) for name, words in TEXTS.items()}
     return made | {f"{count} elements": elements(count) for count in GROWING}
@@ -93,6 +100,7 @@ def rows():
         Row("lookup", "beacon", keys[-1], "beacon: lookup, last key"),
         Row("build", "writable", "", "beacon: build, from bytes"),
         Row("build_tested", "writable", "", "beacon: build, Rust's texts tested"),
+        Row("build", "numbers", "", f"array of {NUMBERS} numbers: build"),
         Row("iterate", "many", "", "3,000 elements: iterate and read"),
         Row("read_at_place", "many", "", "3,000 elements: read at each place"),
         Row("check", "many", "", "3,000 elements: whole check"),
