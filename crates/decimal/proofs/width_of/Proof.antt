@@ -28,7 +28,6 @@ array-read-if1 c = search needs
 returns : tie.Need-returns Inv-loop μ-loop
 returns c =
     let l = c .before .before .loop in
-    let t = c .before .loop-test .taken in
     let power = c .before .before .before .powers-of-ten .ensures .power-at in
     (width-is (l .k) _ (l .inv .0) (l .inv .2) (rw (← power (l .k) (omega arith)) (c .if1 .taken)), l .inv .1)
 
@@ -41,7 +40,6 @@ loop-less c = search needs
 loop-again : tie.Need-loop-again Inv-loop μ-loop
 loop-again c =
     let l = c .before .before .loop in
-    let t = c .before .loop-test .taken in
     let power = c .before .before .before .powers-of-ten .ensures .power-at in
     let n = c .before .before .before .before .args .n in
     (omega arith, omega arith, omega (arith, width-above (l .k) n (rw (← power (l .k) (omega arith)) (c .if1 .left))))
