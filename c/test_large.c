@@ -7,6 +7,7 @@
 
 static const size_t SPAN = 5368709120; /* five times 2^30 */
 static const size_t ROOM = 2147483647;
+static const uint32_t USED = 2000000000; /* bytes in front of a key; no count of an array is above them */
 
 static uint8_t *pages(void) {
     void *at = mmap(NULL, SPAN, PROT_READ | PROT_WRITE, MAP_PRIVATE | MAP_ANONYMOUS | MAP_NORESERVE, -1, 0);
@@ -69,27 +70,26 @@ static void long_data(uint8_t *out, const uint8_t *data) {
     EXPECT_WRITTEN(fringewell_append_binary(&writer, out, SPAN, NOTHING, 0, data, ROOM), FRINGEWELL_NO_ROOM, 0);
 }
 
-/* The key that the writer makes for an element with so many before it in its array, behind 2,000,000,000 bytes. */
+/* The key that the writer makes for an element with so many before it in its array. */
 static void key_of(uint8_t *out, uint32_t count) {
-    static const uint32_t used = 2000000000;
     char element[16] = {FRINGEWELL_TAG_NULL};
     size_t size = 2 + (size_t)snprintf(element + 1, sizeof element - 1, "%" PRIu32, count);
     fringewell_writer writer = fringewell_writer_new();
     EXPECT_WRITTEN(fringewell_writer_open(&writer, out, SPAN), 0, 4);
     EXPECT_WRITTEN(fringewell_writer_open_array(&writer, out, SPAN, NOTHING), 0, 10);
-    writer.words[0] = used;
+    writer.words[0] = USED;
     writer.words[5] = count;
-    out[used + size] = 0xEE;
-    EXPECT_WRITTEN(fringewell_append_null(&writer, out, SPAN, NOTHING), 0, used + size);
-    EXPECT(memcmp(out + used, element, size) == 0);
-    EXPECT_EQUAL(out[used + size], 0xEE);
+    out[USED + size] = 0xEE;
+    EXPECT_WRITTEN(fringewell_append_null(&writer, out, SPAN, NOTHING), 0, USED + size);
+    EXPECT(memcmp(out + USED, element, size) == 0);
+    EXPECT_EQUAL(out[USED + size], 0xEE);
     EXPECT_EQUAL(writer.words[5], count + 1);
 }
 
 /* Keys around each multiple of each power of ten: as long as the number is, and each digit in its place. */
 static void keys(uint8_t *out) {
     for (uint64_t power = 1; power <= 1000000000; power *= 10)
-        for (uint64_t first = power; first < 10 * power && first < 1999999999; first += power)
+        for (uint64_t first = power; first < 10 * power && first < USED; first += power)
             for (uint64_t count = first - 1; count <= first + 1; count++)
                 key_of(out, (uint32_t)count);
 }
