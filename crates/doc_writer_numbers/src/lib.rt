@@ -11,7 +11,7 @@ pub fn append_double(out: &mut [u8], w: DocWriter, key: &[u8], bits: u64) -> Wri
         ≡ writer.performed (writer.append (now (key .entry)) (value.double bits)) (w .words) (now (out .entry)) ⌝ }
 {
     let mut words = w.words;
-    let number = append_numbers::append_double(out, &mut words, key, bits);
+    let number = append_scalars::append_double(out, &mut words, key, bits);
     Written {
         number,
         writer: DocWriter { words },
@@ -24,7 +24,7 @@ pub fn append_bool(out: &mut [u8], w: DocWriter, key: &[u8], b: bool) -> Written
         ≡ writer.performed (writer.append (now (key .entry)) (value.boolean b)) (w .words) (now (out .entry)) ⌝ }
 {
     let mut words = w.words;
-    let number = append_numbers::append_bool(out, &mut words, key, b);
+    let number = append_scalars::append_bool(out, &mut words, key, b);
     Written {
         number,
         writer: DocWriter { words },
@@ -37,7 +37,7 @@ pub fn append_datetime(out: &mut [u8], w: DocWriter, key: &[u8], n: i64) -> Writ
         ≡ writer.performed (writer.append (now (key .entry)) (value.dateTime n)) (w .words) (now (out .entry)) ⌝ }
 {
     let mut words = w.words;
-    let number = append_numbers::append_datetime(out, &mut words, key, n);
+    let number = append_scalars::append_datetime(out, &mut words, key, n);
     Written {
         number,
         writer: DocWriter { words },
@@ -50,7 +50,7 @@ pub fn append_int32(out: &mut [u8], w: DocWriter, key: &[u8], n: i32) -> Written
         ≡ writer.performed (writer.append (now (key .entry)) (value.int32 n)) (w .words) (now (out .entry)) ⌝ }
 {
     let mut words = w.words;
-    let number = append_numbers::append_int32(out, &mut words, key, n);
+    let number = append_scalars::append_int32(out, &mut words, key, n);
     Written {
         number,
         writer: DocWriter { words },
@@ -69,7 +69,7 @@ pub fn append_timestamp(
         ≡ writer.performed (writer.append (now (key .entry)) (value.timestamp increment seconds)) (w .words) (now (out .entry)) ⌝ }
 {
     let mut words = w.words;
-    let number = append_numbers::append_timestamp(out, &mut words, key, increment, seconds);
+    let number = append_scalars::append_timestamp(out, &mut words, key, increment, seconds);
     Written {
         number,
         writer: DocWriter { words },
@@ -82,7 +82,7 @@ pub fn append_int64(out: &mut [u8], w: DocWriter, key: &[u8], n: i64) -> Written
         ≡ writer.performed (writer.append (now (key .entry)) (value.int64 n)) (w .words) (now (out .entry)) ⌝ }
 {
     let mut words = w.words;
-    let number = append_numbers::append_int64(out, &mut words, key, n);
+    let number = append_scalars::append_int64(out, &mut words, key, n);
     Written {
         number,
         writer: DocWriter { words },
@@ -95,7 +95,7 @@ pub fn append_undefined(out: &mut [u8], w: DocWriter, key: &[u8]) -> Written
         ≡ writer.performed (writer.append (now (key .entry)) value.undefined) (w .words) (now (out .entry)) ⌝ }
 {
     let mut words = w.words;
-    let number = append_numbers::append_undefined(out, &mut words, key);
+    let number = append_scalars::append_undefined(out, &mut words, key);
     Written {
         number,
         writer: DocWriter { words },
@@ -108,7 +108,7 @@ pub fn append_null(out: &mut [u8], w: DocWriter, key: &[u8]) -> Written
         ≡ writer.performed (writer.append (now (key .entry)) value.null) (w .words) (now (out .entry)) ⌝ }
 {
     let mut words = w.words;
-    let number = append_numbers::append_null(out, &mut words, key);
+    let number = append_scalars::append_null(out, &mut words, key);
     Written {
         number,
         writer: DocWriter { words },
@@ -121,7 +121,7 @@ pub fn append_min_key(out: &mut [u8], w: DocWriter, key: &[u8]) -> Written
         ≡ writer.performed (writer.append (now (key .entry)) value.minKey) (w .words) (now (out .entry)) ⌝ }
 {
     let mut words = w.words;
-    let number = append_numbers::append_min_key(out, &mut words, key);
+    let number = append_scalars::append_min_key(out, &mut words, key);
     Written {
         number,
         writer: DocWriter { words },
@@ -134,7 +134,7 @@ pub fn append_max_key(out: &mut [u8], w: DocWriter, key: &[u8]) -> Written
         ≡ writer.performed (writer.append (now (key .entry)) value.maxKey) (w .words) (now (out .entry)) ⌝ }
 {
     let mut words = w.words;
-    let number = append_numbers::append_max_key(out, &mut words, key);
+    let number = append_scalars::append_max_key(out, &mut words, key);
     Written {
         number,
         writer: DocWriter { words },

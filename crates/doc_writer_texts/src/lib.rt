@@ -11,7 +11,7 @@ pub fn append_string(out: &mut [u8], w: DocWriter, key: &[u8], text: &[u8]) -> W
         ≡ writer.performed (writer.append (now (key .entry)) (value.string (now (text .entry)))) (w .words) (now (out .entry)) ⌝ }
 {
     let mut words = w.words;
-    let number = append_texts::append_string(out, &mut words, key, text);
+    let number = append_bytes::append_string(out, &mut words, key, text);
     Written {
         number,
         writer: DocWriter { words },
@@ -24,7 +24,7 @@ pub fn append_code(out: &mut [u8], w: DocWriter, key: &[u8], text: &[u8]) -> Wri
         ≡ writer.performed (writer.append (now (key .entry)) (value.code (now (text .entry)))) (w .words) (now (out .entry)) ⌝ }
 {
     let mut words = w.words;
-    let number = append_texts::append_code(out, &mut words, key, text);
+    let number = append_bytes::append_code(out, &mut words, key, text);
     Written {
         number,
         writer: DocWriter { words },
@@ -37,7 +37,7 @@ pub fn append_symbol(out: &mut [u8], w: DocWriter, key: &[u8], text: &[u8]) -> W
         ≡ writer.performed (writer.append (now (key .entry)) (value.symbol (now (text .entry)))) (w .words) (now (out .entry)) ⌝ }
 {
     let mut words = w.words;
-    let number = append_texts::append_symbol(out, &mut words, key, text);
+    let number = append_bytes::append_symbol(out, &mut words, key, text);
     Written {
         number,
         writer: DocWriter { words },
@@ -56,7 +56,7 @@ pub fn append_binary(
         ≡ writer.performed (writer.append (now (key .entry)) (value.binary subtype (now (contents .entry)))) (w .words) (now (out .entry)) ⌝ }
 {
     let mut words = w.words;
-    let number = append_texts::append_binary(out, &mut words, key, subtype, contents);
+    let number = append_bytes::append_binary(out, &mut words, key, subtype, contents);
     Written {
         number,
         writer: DocWriter { words },
@@ -76,7 +76,7 @@ pub fn append_regex(
         (w .words) (now (out .entry)) ⌝ }
 {
     let mut words = w.words;
-    let number = append_texts::append_regex(out, &mut words, key, pattern, options);
+    let number = append_bytes::append_regex(out, &mut words, key, pattern, options);
     Written {
         number,
         writer: DocWriter { words },
@@ -96,7 +96,7 @@ pub fn append_dbpointer(
         (w .words) (now (out .entry)) ⌝ }
 {
     let mut words = w.words;
-    let number = append_texts::append_dbpointer(out, &mut words, key, namespace, id);
+    let number = append_bytes::append_dbpointer(out, &mut words, key, namespace, id);
     Written {
         number,
         writer: DocWriter { words },
@@ -109,7 +109,7 @@ pub fn append_object_id(out: &mut [u8], w: DocWriter, key: &[u8], id: &[u8; 12])
         ≡ writer.performed (writer.append (now (key .entry)) (value.objectId (now (id .entry)))) (w .words) (now (out .entry)) ⌝ }
 {
     let mut words = w.words;
-    let number = append_texts::append_object_id(out, &mut words, key, id);
+    let number = append_bytes::append_object_id(out, &mut words, key, id);
     Written {
         number,
         writer: DocWriter { words },
@@ -122,7 +122,7 @@ pub fn append_decimal128(out: &mut [u8], w: DocWriter, key: &[u8], bits: &[u8; 1
         ≡ writer.performed (writer.append (now (key .entry)) (value.decimal128 (now (bits .entry)))) (w .words) (now (out .entry)) ⌝ }
 {
     let mut words = w.words;
-    let number = append_texts::append_decimal128(out, &mut words, key, bits);
+    let number = append_bytes::append_decimal128(out, &mut words, key, bits);
     Written {
         number,
         writer: DocWriter { words },

@@ -17,7 +17,7 @@ use Rattle.laws.proofs.Common.{split}
 use Rattle.laws.proofs.LimitLaws.{step-beyond, read-beyond, get-beyond, get-with-beyond, check-beyond}
 use Rattle.cstr.specs.Said.{limitOf, capped}
 use Rattle.cstr.proofs.Limits.{capped-says}
-use Rattle.numbers.specs.Numbers.{stepped}
+use Rattle.c_answers.specs.Numbers.{stepped}
 use Rattle.fringewell.specs.Left.{stepsUnder}
 
 -- of a slice that has fewer bytes than the largest number

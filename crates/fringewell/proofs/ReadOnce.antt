@@ -14,9 +14,9 @@ use Rattle.laws.proofs.ReadLaws.{read-step}
 use Rattle.laws.proofs.LookupLaws.{get-read, get-with-says}
 use Rattle.laws.proofs.StepLaws.{step-yields}
 use Rattle.theorems.proofs.Refusals.{reads, typedReads, NoZero, no-zero-under, get-in, get-with-in}
-use Rattle.numbers.specs.Numbers.{found, stepped, valueRead}
-use Rattle.numbers.specs.declared.FoundNumbers.{FoundNumbers}
-use Rattle.numbers.specs.declared.StepNumbers.{StepNumbers}
+use Rattle.c_answers.specs.Numbers.{found, stepped, valueRead}
+use Rattle.c_answers.specs.declared.FoundNumbers.{FoundNumbers}
+use Rattle.c_answers.specs.declared.StepNumbers.{StepNumbers}
 use Rattle.fringewell.specs.Given.{given}
 use Rattle.fringewell.specs.Left.{stepsUnder}
 

@@ -8,10 +8,10 @@ use Rattle.bson.specs.Step.{Cursor, stepUnder}
 use Rattle.bson.specs.Writer as writer
 use Rattle.iter.specs.Said.{said, behind, Answers}
 use Rattle.iter.specs.declared.Step.{Step}
-use Rattle.numbers.specs.Numbers.{joined, stepped, writtenBy}
-use Rattle.numbers.specs.declared.JoinedNumbers.{JoinedNumbers}
-use Rattle.numbers.specs.declared.StepNumbers.{StepNumbers}
-use Rattle.numbers.specs.declared.WrittenNumbers.{WrittenNumbers}
+use Rattle.c_answers.specs.Numbers.{joined, stepped, writtenBy}
+use Rattle.c_answers.specs.declared.JoinedNumbers.{JoinedNumbers}
+use Rattle.c_answers.specs.declared.StepNumbers.{StepNumbers}
+use Rattle.c_answers.specs.declared.WrittenNumbers.{WrittenNumbers}
 use Rattle.fringewell.specs.Left.{stepsUnder, left, joins, leaves, performs}
 
 -- an answer that says a, in the numbers of what it says

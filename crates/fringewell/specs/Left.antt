@@ -6,10 +6,10 @@ use Rattle.bson.specs.Join.{join}
 use Rattle.bson.specs.Cstring.{Limit, unlimited}
 use Rattle.bson.specs.Step.{Cursor, stepUnder, after}
 use Rattle.bson.specs.Writer.{State, Desk, desk, Call, performed}
-use Rattle.numbers.specs.Numbers.{joined, stepped, writtenBy}
-use Rattle.numbers.specs.declared.JoinedNumbers.{JoinedNumbers}
-use Rattle.numbers.specs.declared.StepNumbers.{StepNumbers}
-use Rattle.numbers.specs.declared.WrittenNumbers.{WrittenNumbers}
+use Rattle.c_answers.specs.Numbers.{joined, stepped, writtenBy}
+use Rattle.c_answers.specs.declared.JoinedNumbers.{JoinedNumbers}
+use Rattle.c_answers.specs.declared.StepNumbers.{StepNumbers}
+use Rattle.c_answers.specs.declared.WrittenNumbers.{WrittenNumbers}
 
 -- a step, and the cursor behind it
 abbrev pub stepsUnder : Limit → List ℕ → Cursor → StepNumbers

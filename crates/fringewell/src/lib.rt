@@ -9,17 +9,17 @@ ghost use Rattle.bson.specs.Lookup.{getUnder, getWithUnder, get, getWith, isEmp
 ghost use Rattle.bson.specs.Step.{cursor};
 ghost use Rattle.bson.specs.Value as value;
 ghost use Rattle.bson.specs.Writer as writer;
-ghost use Rattle.numbers.specs.Numbers.{verdict, emptiness, found, valueRead};
+ghost use Rattle.c_answers.specs.Numbers.{verdict, emptiness, found, valueRead};
 ghost use Rattle.fringewell.specs.Given.{given};
 ghost use Rattle.fringewell.specs.Left.{stepsUnder, steps, left, joins, leaves, performs};
+use c_answers::FoundNumbers;
+use c_answers::JoinedNumbers;
+use c_answers::StepNumbers;
+use c_answers::ValueNumbers;
+use c_answers::VerdictNumbers;
+use c_answers::WrittenNumbers;
 use iter::Cursor;
 use iter::Element;
-use numbers::FoundNumbers;
-use numbers::JoinedNumbers;
-use numbers::StepNumbers;
-use numbers::ValueNumbers;
-use numbers::VerdictNumbers;
-use numbers::WrittenNumbers;
 use part::Part;
 
 // The plain check.
@@ -27,7 +27,7 @@ use part::Part;
 pub extern "C" fn fringewell_check(document: &[u8]) -> VerdictNumbers
     ensures { λ r. ⌜ r ≡ verdict (check false (now (document .entry))) ⌝ }
 {
-    numbers::of_verdict(whole::check(document))
+    c_answers::of_verdict(whole::check(document))
 }
 
 // The plain check, under a limit on keys, patterns and options.
@@ -35,7 +35,7 @@ pub extern "C" fn fringewell_check(document: &[u8]) -> VerdictNumbers
 pub extern "C" fn fringewell_check_under(document: &[u8], limit: usize) -> VerdictNumbers
     ensures { λ r. ⌜ r ≡ verdict (checkUnder (most limit) false (now (document .entry))) ⌝ }
 {
-    numbers::of_verdict(whole::check_under(document, cstr::most_of(limit)))
+    c_answers::of_verdict(whole::check_under(document, cstr::most_of(limit)))
 }
 
 // The strict check.
@@ -43,7 +43,7 @@ pub extern "C" fn fringewell_check_under(document: &[u8], limit: usize) -> Verdi
 pub extern "C" fn fringewell_check_strict(document: &[u8]) -> VerdictNumbers
     ensures { λ r. ⌜ r ≡ verdict (check true (now (document .entry))) ⌝ }
 {
-    numbers::of_verdict(whole::check_strict(document))
+    c_answers::of_verdict(whole::check_strict(document))
 }
 
 // The strict check, under a limit.
@@ -51,7 +51,7 @@ pub extern "C" fn fringewell_check_strict(document: &[u8]) -> VerdictNumbers
 pub extern "C" fn fringewell_check_strict_under(document: &[u8], limit: usize) -> VerdictNumbers
     ensures { λ r. ⌜ r ≡ verdict (checkUnder (most limit) true (now (document .entry))) ⌝ }
 {
-    numbers::of_verdict(whole::check_strict_under(document, cstr::most_of(limit)))
+    c_answers::of_verdict(whole::check_strict_under(document, cstr::most_of(limit)))
 }
 
 // Admission, and whether the document has no element.
@@ -59,7 +59,7 @@ pub extern "C" fn fringewell_check_strict_under(document: &[u8], limit: usize) -
 pub extern "C" fn fringewell_is_empty(document: &[u8]) -> VerdictNumbers
     ensures { λ r. ⌜ r ≡ emptiness (isEmpty (now (document .entry))) ⌝ }
 {
-    numbers::of_empty(document::is_empty(document))
+    c_answers::of_empty(document::is_empty(document))
 }
 
 // The first element of a key.
@@ -67,7 +67,7 @@ pub extern "C" fn fringewell_is_empty(document: &[u8]) -> VerdictNumbers
 pub extern "C" fn fringewell_lookup(document: &[u8], key: &[u8]) -> FoundNumbers
     ensures { λ r. ⌜ r ≡ found (get (now (document .entry)) (now (key .entry))) ⌝ }
 {
-    numbers::of_found(document::get_element(document, key))
+    c_answers::of_found(document::get_element(document, key))
 }
 
 // The first element of a key, under a limit.
@@ -75,7 +75,7 @@ pub extern "C" fn fringewell_lookup(document: &[u8], key: &[u8]) -> FoundNumbers
 pub extern "C" fn fringewell_lookup_under(document: &[u8], key: &[u8], limit: usize) -> FoundNumbers
     ensures { λ r. ⌜ r ≡ found (getUnder (most limit) (now (document .entry)) (now (key .entry))) ⌝ }
 {
-    numbers::of_found(document::get_element_under(document, key, cstr::most_of(limit)))
+    c_answers::of_found(document::get_element_under(document, key, cstr::most_of(limit)))
 }
 
 // The first element of a key, whose value must have this tag.
@@ -83,7 +83,7 @@ pub extern "C" fn fringewell_lookup_under(document: &[u8], key: &[u8], limit: us
 pub extern "C" fn fringewell_lookup_typed(document: &[u8], key: &[u8], tag: u8) -> FoundNumbers
     ensures { λ r. ⌜ r ≡ found (getWith (now (document .entry)) (now (key .entry)) tag) ⌝ }
 {
-    numbers::of_found(document::get_with(document, key, tag))
+    c_answers::of_found(document::get_with(document, key, tag))
 }
 
 // The first element of a key, whose value must have this tag, under a limit.
@@ -96,7 +96,7 @@ pub extern "C" fn fringewell_lookup_typed_under(
 ) -> FoundNumbers
     ensures { λ r. ⌜ r ≡ found (getWithUnder (most limit) (now (document .entry)) (now (key .entry)) tag) ⌝ }
 {
-    numbers::of_found(document::get_with_under(document, key, tag, cstr::most_of(limit)))
+    c_answers::of_found(document::get_with_under(document, key, tag, cstr::most_of(limit)))
 }
 
 // The step at a cursor, and the cursor behind it.
@@ -104,7 +104,7 @@ pub extern "C" fn fringewell_lookup_typed_under(
 pub extern "C" fn fringewell_step(document: &[u8], offset: usize, ended: bool) -> StepNumbers
     ensures { λ r. ⌜ r ≡ steps (now (document .entry)) (cursor offset ended) ⌝ }
 {
-    numbers::of_step(iter::next(document, Cursor { offset, ended }))
+    c_answers::of_step(iter::next(document, Cursor { offset, ended }))
 }
 
 // The step at a cursor, under a limit.
@@ -118,7 +118,7 @@ pub extern "C" fn fringewell_step_under(
     ensures { λ r. ⌜ r ≡ stepsUnder (most limit) (now (document .entry)) (cursor offset ended) ⌝ }
 {
     let most = cstr::most_of(limit);
-    numbers::of_step(iter::next_under(document, Cursor { offset, ended }, most))
+    c_answers::of_step(iter::next_under(document, Cursor { offset, ended }, most))
 }
 
 // The value of the element at a place.
@@ -126,7 +126,7 @@ pub extern "C" fn fringewell_step_under(
 pub extern "C" fn fringewell_read(document: &[u8], place: usize) -> ValueNumbers
     ensures { λ r. ⌜ r ≡ valueRead (value.readAt (now (document .entry)) place) ⌝ }
 {
-    numbers::of_reading(reading::read_at(document, place))
+    c_answers::of_reading(reading::read_at(document, place))
 }
 
 // The value of the element at a place, under a limit.
@@ -134,7 +134,7 @@ pub extern "C" fn fringewell_read(document: &[u8], place: usize) -> ValueNumbers
 pub extern "C" fn fringewell_read_under(document: &[u8], place: usize, limit: usize) -> ValueNumbers
     ensures { λ r. ⌜ r ≡ valueRead (value.readAtUnder (most limit) (now (document .entry)) place) ⌝ }
 {
-    numbers::of_reading(reading::read_at_under(document, place, cstr::most_of(limit)))
+    c_answers::of_reading(reading::read_at_under(document, place, cstr::most_of(limit)))
 }
 
 // The value of an element that a step gave, by its place, its tag and where its framed value lies: no second step.
@@ -154,7 +154,7 @@ pub extern "C" fn fringewell_value_of(
         key: Part { offset: 0, size: 0 },
         value: Part { offset, size },
     };
-    numbers::of_reading(reading::value_of(document, element))
+    c_answers::of_reading(reading::value_of(document, element))
 }
 
 // Both documents as one, at the front of a lent buffer.
@@ -162,7 +162,7 @@ pub extern "C" fn fringewell_value_of(
 pub extern "C" fn fringewell_join(first: &[u8], second: &[u8], out: &mut [u8]) -> JoinedNumbers
     ensures { λ r. ⌜ left r (now (out .exit)) ≡ joins (now (first .entry)) (now (second .entry)) (now (out .entry)) ⌝ }
 {
-    numbers::of_joined(join::join(out, first, second))
+    c_answers::of_joined(join::join(out, first, second))
 }
 
 // The writer's state, which C lends: 406 words.
@@ -186,7 +186,7 @@ pub extern "C" fn fringewell_writer_open(words: &mut [u32; 406], out: &mut [u8])
         ≡ performs (writer.openTop) (now (words .entry)) (now (out .entry)) ⌝ }
 {
     let number = nesting::open_top(out, words);
-    numbers::of_written(number, words)
+    c_answers::of_written(number, words)
 }
 
 // Opens a document in the innermost.
@@ -200,7 +200,7 @@ pub extern "C" fn fringewell_writer_open_document(
         ≡ performs (writer.openNest grammar.document (now (key .entry))) (now (words .entry)) (now (out .entry)) ⌝ }
 {
     let number = nesting::open_document(out, words, key);
-    numbers::of_written(number, words)
+    c_answers::of_written(number, words)
 }
 
 // Opens an array in the innermost.
@@ -214,7 +214,7 @@ pub extern "C" fn fringewell_writer_open_array(
         ≡ performs (writer.openNest grammar.array (now (key .entry))) (now (words .entry)) (now (out .entry)) ⌝ }
 {
     let number = nesting::open_array(out, words, key);
-    numbers::of_written(number, words)
+    c_answers::of_written(number, words)
 }
 
 // Closes the innermost.
@@ -224,7 +224,7 @@ pub extern "C" fn fringewell_writer_close(words: &mut [u32; 406], out: &mut [u8]
         ≡ performs (writer.close) (now (words .entry)) (now (out .entry)) ⌝ }
 {
     let number = nesting::close(out, words);
-    numbers::of_written(number, words)
+    c_answers::of_written(number, words)
 }
 
 // Appends a double by its bits.
@@ -238,8 +238,8 @@ pub extern "C" fn fringewell_append_double(
     ensures { λ r. ⌜ leaves r (now (words .exit)) (now (out .exit))
         ≡ performs (writer.append (now (key .entry)) (value.double bits)) (now (words .entry)) (now (out .entry)) ⌝ }
 {
-    let number = append_numbers::append_double(out, words, key, bits);
-    numbers::of_written(number, words)
+    let number = append_scalars::append_double(out, words, key, bits);
+    c_answers::of_written(number, words)
 }
 
 // Appends a boolean.
@@ -253,8 +253,8 @@ pub extern "C" fn fringewell_append_bool(
     ensures { λ r. ⌜ leaves r (now (words .exit)) (now (out .exit))
         ≡ performs (writer.append (now (key .entry)) (value.boolean b)) (now (words .entry)) (now (out .entry)) ⌝ }
 {
-    let number = append_numbers::append_bool(out, words, key, b);
-    numbers::of_written(number, words)
+    let number = append_scalars::append_bool(out, words, key, b);
+    c_answers::of_written(number, words)
 }
 
 // Appends an int32.
@@ -268,8 +268,8 @@ pub extern "C" fn fringewell_append_int32(
     ensures { λ r. ⌜ leaves r (now (words .exit)) (now (out .exit))
         ≡ performs (writer.append (now (key .entry)) (value.int32 n)) (now (words .entry)) (now (out .entry)) ⌝ }
 {
-    let number = append_numbers::append_int32(out, words, key, n);
-    numbers::of_written(number, words)
+    let number = append_scalars::append_int32(out, words, key, n);
+    c_answers::of_written(number, words)
 }
 
 // Appends an int64.
@@ -283,8 +283,8 @@ pub extern "C" fn fringewell_append_int64(
     ensures { λ r. ⌜ leaves r (now (words .exit)) (now (out .exit))
         ≡ performs (writer.append (now (key .entry)) (value.int64 n)) (now (words .entry)) (now (out .entry)) ⌝ }
 {
-    let number = append_numbers::append_int64(out, words, key, n);
-    numbers::of_written(number, words)
+    let number = append_scalars::append_int64(out, words, key, n);
+    c_answers::of_written(number, words)
 }
 
 // Appends a datetime, in milliseconds since 1970.
@@ -298,8 +298,8 @@ pub extern "C" fn fringewell_append_datetime(
     ensures { λ r. ⌜ leaves r (now (words .exit)) (now (out .exit))
         ≡ performs (writer.append (now (key .entry)) (value.dateTime n)) (now (words .entry)) (now (out .entry)) ⌝ }
 {
-    let number = append_numbers::append_datetime(out, words, key, n);
-    numbers::of_written(number, words)
+    let number = append_scalars::append_datetime(out, words, key, n);
+    c_answers::of_written(number, words)
 }
 
 // Appends a timestamp.
@@ -314,8 +314,8 @@ pub extern "C" fn fringewell_append_timestamp(
     ensures { λ r. ⌜ leaves r (now (words .exit)) (now (out .exit))
         ≡ performs (writer.append (now (key .entry)) (value.timestamp increment seconds)) (now (words .entry)) (now (out .entry)) ⌝ }
 {
-    let number = append_numbers::append_timestamp(out, words, key, increment, seconds);
-    numbers::of_written(number, words)
+    let number = append_scalars::append_timestamp(out, words, key, increment, seconds);
+    c_answers::of_written(number, words)
 }
 
 // Appends a null.
@@ -328,8 +328,8 @@ pub extern "C" fn fringewell_append_null(
     ensures { λ r. ⌜ leaves r (now (words .exit)) (now (out .exit))
         ≡ performs (writer.append (now (key .entry)) value.null) (now (words .entry)) (now (out .entry)) ⌝ }
 {
-    let number = append_numbers::append_null(out, words, key);
-    numbers::of_written(number, words)
+    let number = append_scalars::append_null(out, words, key);
+    c_answers::of_written(number, words)
 }
 
 // Appends an undefined.
@@ -342,8 +342,8 @@ pub extern "C" fn fringewell_append_undefined(
     ensures { λ r. ⌜ leaves r (now (words .exit)) (now (out .exit))
         ≡ performs (writer.append (now (key .entry)) value.undefined) (now (words .entry)) (now (out .entry)) ⌝ }
 {
-    let number = append_numbers::append_undefined(out, words, key);
-    numbers::of_written(number, words)
+    let number = append_scalars::append_undefined(out, words, key);
+    c_answers::of_written(number, words)
 }
 
 // Appends a min key.
@@ -356,8 +356,8 @@ pub extern "C" fn fringewell_append_min_key(
     ensures { λ r. ⌜ leaves r (now (words .exit)) (now (out .exit))
         ≡ performs (writer.append (now (key .entry)) value.minKey) (now (words .entry)) (now (out .entry)) ⌝ }
 {
-    let number = append_numbers::append_min_key(out, words, key);
-    numbers::of_written(number, words)
+    let number = append_scalars::append_min_key(out, words, key);
+    c_answers::of_written(number, words)
 }
 
 // Appends a max key.
@@ -370,8 +370,8 @@ pub extern "C" fn fringewell_append_max_key(
     ensures { λ r. ⌜ leaves r (now (words .exit)) (now (out .exit))
         ≡ performs (writer.append (now (key .entry)) value.maxKey) (now (words .entry)) (now (out .entry)) ⌝ }
 {
-    let number = append_numbers::append_max_key(out, words, key);
-    numbers::of_written(number, words)
+    let number = append_scalars::append_max_key(out, words, key);
+    c_answers::of_written(number, words)
 }
 
 // Appends a string.
@@ -385,8 +385,8 @@ pub extern "C" fn fringewell_append_string(
     ensures { λ r. ⌜ leaves r (now (words .exit)) (now (out .exit))
         ≡ performs (writer.append (now (key .entry)) (value.string (now (text .entry)))) (now (words .entry)) (now (out .entry)) ⌝ }
 {
-    let number = append_texts::append_string(out, words, key, text);
-    numbers::of_written(number, words)
+    let number = append_bytes::append_string(out, words, key, text);
+    c_answers::of_written(number, words)
 }
 
 // Appends JavaScript code.
@@ -400,8 +400,8 @@ pub extern "C" fn fringewell_append_code(
     ensures { λ r. ⌜ leaves r (now (words .exit)) (now (out .exit))
         ≡ performs (writer.append (now (key .entry)) (value.code (now (text .entry)))) (now (words .entry)) (now (out .entry)) ⌝ }
 {
-    let number = append_texts::append_code(out, words, key, text);
-    numbers::of_written(number, words)
+    let number = append_bytes::append_code(out, words, key, text);
+    c_answers::of_written(number, words)
 }
 
 // Appends a symbol.
@@ -415,8 +415,8 @@ pub extern "C" fn fringewell_append_symbol(
     ensures { λ r. ⌜ leaves r (now (words .exit)) (now (out .exit))
         ≡ performs (writer.append (now (key .entry)) (value.symbol (now (text .entry)))) (now (words .entry)) (now (out .entry)) ⌝ }
 {
-    let number = append_texts::append_symbol(out, words, key, text);
-    numbers::of_written(number, words)
+    let number = append_bytes::append_symbol(out, words, key, text);
+    c_answers::of_written(number, words)
 }
 
 // Appends binary data.
@@ -431,8 +431,8 @@ pub extern "C" fn fringewell_append_binary(
     ensures { λ r. ⌜ leaves r (now (words .exit)) (now (out .exit))
         ≡ performs (writer.append (now (key .entry)) (value.binary subtype (now (contents .entry)))) (now (words .entry)) (now (out .entry)) ⌝ }
 {
-    let number = append_texts::append_binary(out, words, key, subtype, contents);
-    numbers::of_written(number, words)
+    let number = append_bytes::append_binary(out, words, key, subtype, contents);
+    c_answers::of_written(number, words)
 }
 
 // Appends a regular expression.
@@ -447,8 +447,8 @@ pub extern "C" fn fringewell_append_regex(
     ensures { λ r. ⌜ leaves r (now (words .exit)) (now (out .exit))
         ≡ performs (writer.append (now (key .entry)) (value.regex (now (pattern .entry)) (now (options .entry)))) (now (words .entry)) (now (out .entry)) ⌝ }
 {
-    let number = append_texts::append_regex(out, words, key, pattern, options);
-    numbers::of_written(number, words)
+    let number = append_bytes::append_regex(out, words, key, pattern, options);
+    c_answers::of_written(number, words)
 }
 
 // Appends a DBPointer.
@@ -463,8 +463,8 @@ pub extern "C" fn fringewell_append_dbpointer(
     ensures { λ r. ⌜ leaves r (now (words .exit)) (now (out .exit))
         ≡ performs (writer.append (now (key .entry)) (value.dbPointer (now (namespace .entry)) (now (id .entry)))) (now (words .entry)) (now (out .entry)) ⌝ }
 {
-    let number = append_texts::append_dbpointer(out, words, key, namespace, id);
-    numbers::of_written(number, words)
+    let number = append_bytes::append_dbpointer(out, words, key, namespace, id);
+    c_answers::of_written(number, words)
 }
 
 // Appends an ObjectId.
@@ -478,8 +478,8 @@ pub extern "C" fn fringewell_append_object_id(
     ensures { λ r. ⌜ leaves r (now (words .exit)) (now (out .exit))
         ≡ performs (writer.append (now (key .entry)) (value.objectId (now (id .entry)))) (now (words .entry)) (now (out .entry)) ⌝ }
 {
-    let number = append_texts::append_object_id(out, words, key, id);
-    numbers::of_written(number, words)
+    let number = append_bytes::append_object_id(out, words, key, id);
+    c_answers::of_written(number, words)
 }
 
 // Appends a decimal128 by its bits.
@@ -493,6 +493,6 @@ pub extern "C" fn fringewell_append_decimal128(
     ensures { λ r. ⌜ leaves r (now (words .exit)) (now (out .exit))
         ≡ performs (writer.append (now (key .entry)) (value.decimal128 (now (bits .entry)))) (now (words .entry)) (now (out .entry)) ⌝ }
 {
-    let number = append_texts::append_decimal128(out, words, key, bits);
-    numbers::of_written(number, words)
+    let number = append_bytes::append_decimal128(out, words, key, bits);
+    c_answers::of_written(number, words)
 }

@@ -1,5 +1,5 @@
 -- `fringewell::fringewell_check_strict` meets its contract: the call, then its numbers. Assumes nothing.
-use Rattle.numbers.specs.Numbers.{verdict}
+use Rattle.c_answers.specs.Numbers.{verdict}
 use Rattle.fringewell.proofs.Through.{through}
 use Rattle.fringewell.proofs.fringewell_check_strict.Statement.{statement}
 use Rattle.fringewell.proofs.fringewell_check_strict.Tie as tie

@@ -1,7 +1,7 @@
 -- `fringewell::fringewell_check_under` meets its contract: the number for the limit, the call, then its numbers. Assumes nothing.
 use mathlib.Core.Path.{_∙_}
 use native.Mathlib.Omega.{arith}
-use Rattle.numbers.specs.Numbers.{verdict}
+use Rattle.c_answers.specs.Numbers.{verdict}
 use Rattle.fringewell.proofs.Limits.{check-passed}
 use Rattle.fringewell.proofs.Through.{through}
 use Rattle.fringewell.proofs.fringewell_check_under.Statement.{statement}

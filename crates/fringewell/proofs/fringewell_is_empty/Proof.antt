@@ -1,5 +1,5 @@
 -- `fringewell::fringewell_is_empty` meets its contract: the call, then its numbers. Assumes nothing.
-use Rattle.numbers.specs.Numbers.{emptiness}
+use Rattle.c_answers.specs.Numbers.{emptiness}
 use Rattle.fringewell.proofs.Through.{through}
 use Rattle.fringewell.proofs.fringewell_is_empty.Statement.{statement}
 use Rattle.fringewell.proofs.fringewell_is_empty.Tie as tie

@@ -1,5 +1,5 @@
 -- `fringewell::fringewell_lookup` meets its contract: the call, then its numbers. Assumes nothing.
-use Rattle.numbers.specs.Numbers.{found}
+use Rattle.c_answers.specs.Numbers.{found}
 use Rattle.fringewell.proofs.Through.{through}
 use Rattle.fringewell.proofs.fringewell_lookup.Statement.{statement}
 use Rattle.fringewell.proofs.fringewell_lookup.Tie as tie

@@ -1,7 +1,7 @@
 -- `fringewell::fringewell_lookup_under` meets its contract: the number for the limit, the call, then its numbers. Assumes nothing.
 use mathlib.Core.Path.{_∙_}
 use native.Mathlib.Omega.{arith}
-use Rattle.numbers.specs.Numbers.{found}
+use Rattle.c_answers.specs.Numbers.{found}
 use Rattle.fringewell.proofs.Limits.{lookup-passed}
 use Rattle.fringewell.proofs.Through.{through}
 use Rattle.fringewell.proofs.fringewell_lookup_under.Statement.{statement}

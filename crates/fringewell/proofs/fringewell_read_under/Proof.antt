@@ -1,7 +1,7 @@
 -- `fringewell::fringewell_read_under` meets its contract: the number for the limit, the call, then its numbers. Assumes nothing.
 use mathlib.Core.Path.{_∙_}
 use native.Mathlib.Omega.{arith}
-use Rattle.numbers.specs.Numbers.{valueRead}
+use Rattle.c_answers.specs.Numbers.{valueRead}
 use Rattle.fringewell.proofs.Limits.{read-passed}
 use Rattle.fringewell.proofs.Through.{through}
 use Rattle.fringewell.proofs.fringewell_read_under.Statement.{statement}

@@ -1,5 +1,5 @@
 -- `fringewell::fringewell_value_of` meets its contract: the call, then its numbers. Assumes nothing.
-use Rattle.numbers.specs.Numbers.{valueRead}
+use Rattle.c_answers.specs.Numbers.{valueRead}
 use Rattle.fringewell.proofs.Through.{through}
 use Rattle.fringewell.proofs.fringewell_value_of.Statement.{statement}
 use Rattle.fringewell.proofs.fringewell_value_of.Tie as tie

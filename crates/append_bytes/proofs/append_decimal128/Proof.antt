@@ -1,0 +1,39 @@
+-- `append_bytes::append_decimal128` meets its contract: its bytes are the first run. Assumes nothing.
+use mathlib.Core.Path.{refl}
+use mathlib.Core.List.{append-nil}
+use Rattle.bson.specs.Writer.{answer, performed}
+use Rattle.bson.specs.Grammar.{row}
+use Rattle.appending.specs.Refusal.{appending}
+use Rattle.appending.proofs.Valued.{valued}
+use Rattle.append_bytes.proofs.append_decimal128.Statement.{statement}
+use Rattle.append_bytes.proofs.append_decimal128.Tie as tie
+
+slice-aggregate-append : tie.Need-slice-aggregate-append
+slice-aggregate-append c = refl
+
+slice-aggregate-append-2 : tie.Need-slice-aggregate-append-2
+slice-aggregate-append-2 c = refl
+
+slice-aggregate-append-3 : tie.Need-slice-aggregate-append-3
+slice-aggregate-append-3 c = refl
+
+append-requires : tie.Need-append-requires
+append-requires c κs = tt
+
+same-length : tie.Need-same-length
+same-length c = c .before .before .append .kept .0
+
+returns : tie.Need-returns
+unfolding performed answer row appending
+returns c = valued _ _ _ _ _ _ (c .before .before .append .ensures) (append-nil _)
+
+pub append-decimal128-spec : {M : Type 1} → statement M
+append-decimal128-spec =
+    tie.close
+    (tie.spec
+    slice-aggregate-append
+    slice-aggregate-append-2
+    slice-aggregate-append-3
+    append-requires
+    same-length
+    returns)

@@ -1,0 +1,19 @@
+-- `append_bytes::append_symbol` meets its contract: a text by its tag. Assumes nothing.
+use Rattle.bson.specs.Writer.{answer, performed}
+use Rattle.bson.specs.Grammar.{row}
+use Rattle.appending.specs.Refusal.{appending}
+use Rattle.append_bytes.proofs.append_symbol.Statement.{statement}
+use Rattle.append_bytes.proofs.append_symbol.Tie as tie
+
+append-text-requires : tie.Need-append-text-requires
+append-text-requires c κs = tt
+
+same-length : tie.Need-same-length
+same-length c = c .before .before .append-text .kept .0
+
+returns : tie.Need-returns
+unfolding performed answer row appending
+returns c = c .before .before .append-text .ensures
+
+pub append-symbol-spec : {M : Type 1} → statement M
+append-symbol-spec = tie.close (tie.spec append-text-requires same-length returns)

@@ -1,0 +1,19 @@
+-- `append_scalars::append_double` meets its contract: the bits are its eight bytes. Assumes nothing.
+use Rattle.bson.specs.Writer.{answer, performed}
+use Rattle.bson.specs.Grammar.{row}
+use Rattle.appending.specs.Refusal.{appending}
+use Rattle.append_scalars.proofs.append_double.Statement.{statement}
+use Rattle.append_scalars.proofs.append_double.Tie as tie
+
+append-eight-requires : tie.Need-append-eight-requires
+append-eight-requires c κs = tt
+
+same-length : tie.Need-same-length
+same-length c = c .before .before .append-eight .kept .0
+
+returns : tie.Need-returns
+unfolding performed answer row appending
+returns c = c .before .before .append-eight .ensures
+
+pub append-double-spec : {M : Type 1} → statement M
+append-double-spec = tie.close (tie.spec append-eight-requires same-length returns)

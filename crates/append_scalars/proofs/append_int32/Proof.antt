@@ -1,0 +1,71 @@
+-- `append_scalars::append_int32` meets its contract: refused as its head is, or the four bytes of its bits behind it. Assumes nothing.
+use Prim.Native.Nat.{ℕ, _-_}
+use mathlib.Core.List.{[], _∷_}
+use mathlib.Core.Path.{ap, sym, _∙_}
+use mir.Syntax.{w32}
+use Rattle.bson.specs.Writer.{answer, performed}
+use Rattle.bson.specs.Grammar.{row, bytes32, unsigned}
+use Rattle.laws.proofs.GrammarLaws.{length-bytes32}
+use Rattle.appending.specs.Refusal.{appending}
+use Rattle.appending.proofs.Filled.{head-refused, head-ready, value-put}
+use Rattle.encode.proofs.Basic.{passed}
+use Rattle.append_scalars.proofs.Words.{word}
+use borrow.Author.Needs.{needs}
+use Rattle.append_scalars.proofs.append_int32.Statement.{statement}
+use Rattle.append_scalars.proofs.append_int32.Tie as tie
+
+head-requires : tie.Need-head-requires
+head-requires c κs = search needs
+
+used-requires : tie.Need-used-requires
+used-requires c κs = search needs
+
+sub-at : tie.Need-sub-at
+sub-at c =
+    let h = c .before .before .before .before .before in
+    head-ready _ _ _ _ _ _ _ _ _ _ (h .head .ensures) (c .before .before .if1 .taken) _ (c .used .ensures .0)
+
+bits32-requires : tie.Need-bits32-requires
+bits32-requires c κs = search needs
+
+cast-put-bytes32 : tie.Need-cast-put-bytes32
+cast-put-bytes32 c = search needs
+
+put-bytes32-requires : tie.Need-put-bytes32-requires
+put-bytes32-requires c κs = search needs
+
+same-length : tie.Need-same-length
+same-length c = search needs
+
+returns : tie.Need-returns
+unfolding performed answer row appending
+returns c =
+    let p = c .before .before in
+    let u = p .before .before .before in
+    let h = u .before .before .before .before .before in
+    let s = h .before .before .before .before .before in
+    let e = passed w32 (s .args .n) (s .fits .n) (unsigned 0x8000_0000) (p .before .bits32 .ensures) in
+    value-put _ _ _ _ _ _ _ _ (sym (length-bytes32 _)) _ _ _ (h .head .ensures) (u .before .before .if1 .taken) (h .head .kept .0) _
+    (ap (λ (n : ℕ). n - 4) (u .used .ensures .0)) (_ ∷ []) (word _ ∙ ap bytes32 e) _ _ (p .put-bytes32 .ensures)
+
+same-length-2 : tie.Need-same-length-2
+same-length-2 c = search needs
+
+returns-2 : tie.Need-returns-2
+unfolding performed answer row appending
+returns-2 c = head-refused _ _ _ _ _ _ _ _ (sym (length-bytes32 _)) _ _ _ (c .before .before .before .head .ensures) (c .if1 .left)
+
+pub append-int32-spec : {M : Type 1} → statement M
+append-int32-spec =
+    tie.close
+    (tie.spec
+    head-requires
+    used-requires
+    sub-at
+    bits32-requires
+    cast-put-bytes32
+    put-bytes32-requires
+    same-length
+    returns
+    same-length-2
+    returns-2)

@@ -1,0 +1,30 @@
+-- `append_scalars::append_int64` meets its contract: the eight bytes of its bits. Assumes nothing.
+use mathlib.Core.Path.{ap}
+use mir.Syntax.{w64}
+use Rattle.bson.specs.Writer.{answer, performed}
+use Rattle.bson.specs.Grammar.{row, bytes64, unsigned}
+use Rattle.appending.specs.Refusal.{appending}
+use Rattle.appending.proofs.Valued.{valued}
+use Rattle.encode.proofs.Basic.{passed}
+use Rattle.append_scalars.proofs.append_int64.Statement.{statement}
+use Rattle.append_scalars.proofs.append_int64.Tie as tie
+
+bits64-requires : tie.Need-bits64-requires
+bits64-requires c κs = tt
+
+append-eight-requires : tie.Need-append-eight-requires
+append-eight-requires c κs = tt
+
+same-length : tie.Need-same-length
+same-length c = c .before .before .append-eight .kept .0
+
+returns : tie.Need-returns
+unfolding performed answer row appending
+returns c =
+    let v = c .before .before .before in
+    let s = v .before .before .before .before .before in
+    let e = passed w64 (s .args .n) (s .fits .n) (unsigned 0x8000_0000_0000_0000) (v .bits64 .ensures) in
+    valued _ _ _ _ _ _ (c .before .before .append-eight .ensures) (ap bytes64 e)
+
+pub append-int64-spec : {M : Type 1} → statement M
+append-int64-spec = tie.close (tie.spec bits64-requires append-eight-requires same-length returns)

@@ -1,0 +1,17 @@
+-- `c_answers::of_halves` meets its contract: the sum of both halves fits. Assumes nothing.
+use mathlib.Core.Path.{refl}
+use borrow.Author.Needs.{needs}
+use Rattle.c_answers.proofs.of_halves.Statement.{statement}
+use Rattle.c_answers.proofs.of_halves.Tie as tie
+
+mul-result : tie.Need-mul-result
+mul-result c = search needs
+
+add-result : tie.Need-add-result
+add-result c = search needs
+
+returns : tie.Need-returns
+returns c = refl
+
+pub of-halves-spec : {M : Type 1} → statement M
+of-halves-spec = tie.close (tie.spec mul-result add-result returns)
