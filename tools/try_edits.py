@@ -2,7 +2,7 @@
 """Holds each wrong edit to its own refusal, by what `rt ci` logged; `rt` asks of a whole file of edits only that it is refused.
 
 A file crates/CRATE/must-fail/FILE.edit with lines `fn:` holds edits of different functions, tried together: a line `# NAME`, then `fn: FUNCTION`
-with the name of the function's folder in proofs/, then what `rt` replaces. Each such function must have an error of its own, and nothing beside
+with the function's folder in proofs/, then what `rt` replaces. Each such function must have an error of its own, and nothing beside
 them may have one. A file without such a line is one edit, of a definition or a promise, by the name of the file: a proof must have an error of its
 own, and no definition. docs/CLAIMS.md names every edit, and README.md says how many there are.
 
@@ -13,7 +13,7 @@ import sys
 from pathlib import Path
 
 ROOT = Path(__file__).resolve().parent.parent
-ERROR = re.compile(r"^(?:note: )?\S*?/(proofs|specs)/([^/:]+)\S*?:\d+:\d+: error: (.*)", re.M)
+ERROR = re.compile(r"^(?:note: )?\S*?/(proofs|specs)/([^:\s]+?)(?:/[^/:\s]+)?:\d+:\d+: error: (.*)", re.M)
 # errors that refute no fact: of whoever needs what was refused, of a name that is not there, of code that was not looked at
 NO_FACT = ("was not admitted (", "is not in scope", "that can be named from here", "has no field")
 

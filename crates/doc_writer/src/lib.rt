@@ -1,4 +1,7 @@
-// The writer with its state by value: fresh, opened and closed (document 01, "Writer and joining"; src/raw/doc_writer.rs of the Rust).
+// The writer with its state by value: fresh, opened and closed; what it appends stands in `scalars` and `bytes` (document 01, "Writer and joining"; src/raw/doc_writer.rs of the Rust).
+pub mod bytes;
+pub mod scalars;
+
 ghost use mathlib.Core.Path.{_≡_};
 ghost use Rattle.bson.specs.Grammar as grammar;
 ghost use Rattle.bson.specs.Writer as writer;

@@ -23,6 +23,8 @@ use crate::text::unhex;
 use crate::text::word_number;
 use doc_writer::DocWriter;
 use doc_writer::Written;
+use doc_writer::bytes;
+use doc_writer::scalars;
 
 const CALLS: [u8; 162] =
     *b"open close document array null undefined minkey maxkey boolean int32 int64 datetime double timestamp string code symbol binary regex dbpointer objectid decimal128";
@@ -79,16 +81,16 @@ fn append_number(which: usize, out: &mut [u8], w: DocWriter, key: &[u8], call: &
     let n = number_of(field(call, 2));
     let below = is_below(field(call, 2));
     match which {
-        5 => doc_writer_numbers::append_null(out, w, key),
-        6 => doc_writer_numbers::append_undefined(out, w, key),
-        7 => doc_writer_numbers::append_min_key(out, w, key),
-        8 => doc_writer_numbers::append_max_key(out, w, key),
-        9 => doc_writer_numbers::append_bool(out, w, key, n == 1),
-        10 => doc_writer_numbers::append_int32(out, w, key, int32_of(below, n)),
-        11 => doc_writer_numbers::append_int64(out, w, key, int64_of(below, n)),
-        12 => doc_writer_numbers::append_datetime(out, w, key, int64_of(below, n)),
-        13 => doc_writer_numbers::append_double(out, w, key, n as u64),
-        _ => doc_writer_numbers::append_timestamp(
+        5 => scalars::append_null(out, w, key),
+        6 => scalars::append_undefined(out, w, key),
+        7 => scalars::append_min_key(out, w, key),
+        8 => scalars::append_max_key(out, w, key),
+        9 => scalars::append_bool(out, w, key, n == 1),
+        10 => scalars::append_int32(out, w, key, int32_of(below, n)),
+        11 => scalars::append_int64(out, w, key, int64_of(below, n)),
+        12 => scalars::append_datetime(out, w, key, int64_of(below, n)),
+        13 => scalars::append_double(out, w, key, n as u64),
+        _ => scalars::append_timestamp(
             out,
             w,
             key,
@@ -112,15 +114,15 @@ fn append_id(
     match which {
         20 => {
             unhex(field(call, 3), &mut id);
-            doc_writer_texts::append_dbpointer(out, w, key, text, &id)
+            bytes::append_dbpointer(out, w, key, text, &id)
         }
         21 => {
             unhex(field(call, 2), &mut id);
-            doc_writer_texts::append_object_id(out, w, key, &id)
+            bytes::append_object_id(out, w, key, &id)
         }
         _ => {
             unhex(field(call, 2), &mut bits);
-            doc_writer_texts::append_decimal128(out, w, key, &bits)
+            bytes::append_decimal128(out, w, key, &bits)
         }
     }
 }
@@ -135,11 +137,11 @@ fn append_text(
     second: &[u8],
 ) -> Written {
     match which {
-        15 => doc_writer_texts::append_string(out, w, key, first),
-        16 => doc_writer_texts::append_code(out, w, key, first),
-        17 => doc_writer_texts::append_symbol(out, w, key, first),
-        18 => doc_writer_texts::append_binary(out, w, key, byte_of(field(call, 2)), second),
-        19 => doc_writer_texts::append_regex(out, w, key, first, second),
+        15 => bytes::append_string(out, w, key, first),
+        16 => bytes::append_code(out, w, key, first),
+        17 => bytes::append_symbol(out, w, key, first),
+        18 => bytes::append_binary(out, w, key, byte_of(field(call, 2)), second),
+        19 => bytes::append_regex(out, w, key, first, second),
         _ => append_id(which, out, w, key, call, first),
     }
 }

@@ -18,24 +18,24 @@ use Rattle.doc_writer.proofs.open.Reads as open-reads
 use Rattle.doc_writer.proofs.open_document.Reads as open-document-reads
 use Rattle.doc_writer.proofs.open_array.Reads as open-array-reads
 use Rattle.doc_writer.proofs.close.Reads as close-reads
-use Rattle.doc_writer_numbers.proofs.append_double.Reads as append-double-reads
-use Rattle.doc_writer_numbers.proofs.append_bool.Reads as append-bool-reads
-use Rattle.doc_writer_numbers.proofs.append_datetime.Reads as append-datetime-reads
-use Rattle.doc_writer_numbers.proofs.append_int32.Reads as append-int32-reads
-use Rattle.doc_writer_numbers.proofs.append_timestamp.Reads as append-timestamp-reads
-use Rattle.doc_writer_numbers.proofs.append_int64.Reads as append-int64-reads
-use Rattle.doc_writer_numbers.proofs.append_undefined.Reads as append-undefined-reads
-use Rattle.doc_writer_numbers.proofs.append_null.Reads as append-null-reads
-use Rattle.doc_writer_numbers.proofs.append_min_key.Reads as append-min-key-reads
-use Rattle.doc_writer_numbers.proofs.append_max_key.Reads as append-max-key-reads
-use Rattle.doc_writer_texts.proofs.append_string.Reads as append-string-reads
-use Rattle.doc_writer_texts.proofs.append_code.Reads as append-code-reads
-use Rattle.doc_writer_texts.proofs.append_symbol.Reads as append-symbol-reads
-use Rattle.doc_writer_texts.proofs.append_binary.Reads as append-binary-reads
-use Rattle.doc_writer_texts.proofs.append_regex.Reads as append-regex-reads
-use Rattle.doc_writer_texts.proofs.append_dbpointer.Reads as append-dbpointer-reads
-use Rattle.doc_writer_texts.proofs.append_object_id.Reads as append-object-id-reads
-use Rattle.doc_writer_texts.proofs.append_decimal128.Reads as append-decimal128-reads
+use Rattle.doc_writer.proofs.scalars.append_double.Reads as append-double-reads
+use Rattle.doc_writer.proofs.scalars.append_bool.Reads as append-bool-reads
+use Rattle.doc_writer.proofs.scalars.append_datetime.Reads as append-datetime-reads
+use Rattle.doc_writer.proofs.scalars.append_int32.Reads as append-int32-reads
+use Rattle.doc_writer.proofs.scalars.append_timestamp.Reads as append-timestamp-reads
+use Rattle.doc_writer.proofs.scalars.append_int64.Reads as append-int64-reads
+use Rattle.doc_writer.proofs.scalars.append_undefined.Reads as append-undefined-reads
+use Rattle.doc_writer.proofs.scalars.append_null.Reads as append-null-reads
+use Rattle.doc_writer.proofs.scalars.append_min_key.Reads as append-min-key-reads
+use Rattle.doc_writer.proofs.scalars.append_max_key.Reads as append-max-key-reads
+use Rattle.doc_writer.proofs.bytes.append_string.Reads as append-string-reads
+use Rattle.doc_writer.proofs.bytes.append_code.Reads as append-code-reads
+use Rattle.doc_writer.proofs.bytes.append_symbol.Reads as append-symbol-reads
+use Rattle.doc_writer.proofs.bytes.append_binary.Reads as append-binary-reads
+use Rattle.doc_writer.proofs.bytes.append_regex.Reads as append-regex-reads
+use Rattle.doc_writer.proofs.bytes.append_dbpointer.Reads as append-dbpointer-reads
+use Rattle.doc_writer.proofs.bytes.append_object_id.Reads as append-object-id-reads
+use Rattle.doc_writer.proofs.bytes.append_decimal128.Reads as append-decimal128-reads
 
 -- what is lent: a buffer, a key or a text
 abbrev pub Lent : Type 0

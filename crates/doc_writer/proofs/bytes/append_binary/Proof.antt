@@ -1,0 +1,15 @@
+-- `doc_writer::bytes::append_binary` meets its contract: what the call on lent words leaves. Assumes nothing.
+use Rattle.doc_writer.proofs.bytes.append_binary.Statement.{statement}
+use Rattle.doc_writer.proofs.bytes.append_binary.Tie as tie
+
+append-binary-requires : tie.Need-append-binary-requires
+append-binary-requires c κs = tt
+
+same-length : tie.Need-same-length
+same-length c = c .before .before .append-binary .kept .0
+
+returns : tie.Need-returns
+returns c = c .before .before .append-binary .ensures
+
+pub append-binary-spec : {M : Type 1} → statement M
+append-binary-spec = tie.close (tie.spec append-binary-requires same-length returns)

@@ -1,0 +1,15 @@
+-- `doc_writer::scalars::append_null` meets its contract: what the call on lent words leaves. Assumes nothing.
+use Rattle.doc_writer.proofs.scalars.append_null.Statement.{statement}
+use Rattle.doc_writer.proofs.scalars.append_null.Tie as tie
+
+append-null-requires : tie.Need-append-null-requires
+append-null-requires c κs = tt
+
+same-length : tie.Need-same-length
+same-length c = c .before .before .append-null .kept .0
+
+returns : tie.Need-returns
+returns c = c .before .before .append-null .ensures
+
+pub append-null-spec : {M : Type 1} → statement M
+append-null-spec = tie.close (tie.spec append-null-requires same-length returns)
