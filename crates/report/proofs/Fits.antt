@@ -19,7 +19,7 @@ use Rattle.laws.proofs.Common.{split}
 use Rattle.laws.proofs.StepLaws.{Yields, Each, iterate-each}
 use Rattle.laws.proofs.OutputLaws.{texts-fit}
 use Rattle.laws.proofs.DecimalLaws.{width-within, width-small}
-use Rattle.verdict_line.proofs.Lines.{accepted-size, refused-size}
+use Rattle.report.proofs.Lines.{accepted-size, refused-size}
 use Rattle.report.proofs.Lines.{element-size}
 
 -- the line of a verdict whose numbers the machine holds

@@ -2,6 +2,7 @@
 ghost use mathlib.Core.Path.{_≡_};
 ghost use Prim.Native.Nat.{_<_, _≤_};
 ghost use lib.ListN.{length, take};
+ghost use Rattle.bson.specs.Answer.{gives, refuses};
 ghost use Rattle.bson.specs.Output.{output, putText, putTexts};
 ghost use Rattle.bson.specs.Step.{iterate};
 ghost use Rattle.bson.specs.Report.{hexDigit, elementLine, verdictLine, elementLines, reportLines, report};
@@ -39,6 +40,35 @@ pub fn put_element(out: &mut [u8], at: usize, element: Element) -> usize
     at
 }
 
+// Puts the line of a verdict that accepts; the offset behind it, or the same where it does not fit and nothing is written.
+fn put_accepted(out: &mut [u8], at: usize, count: usize) -> usize
+    ensures { λ r. ⌜ output (now (out .exit)) r ≡ putText (output (now (out .entry)) at) (verdictLine (gives count)) ⌝ }
+{
+    let line = decimal::width_of(count) + 10;
+    if output::fits(out.len(), at, line) {
+        let a = output::put_text(out, at, b"accepted ");
+        let b = decimal::put_decimal(out, a, count);
+        return output::put_text(out, b, b"\n");
+    }
+    at
+}
+
+// The same for one that refuses.
+fn put_refused(out: &mut [u8], at: usize, number: u8, place: usize) -> usize
+    ensures { λ r. ⌜ output (now (out .exit)) r ≡ putText (output (now (out .entry)) at) (verdictLine (refuses number place)) ⌝ }
+{
+    let n = number as usize;
+    let line = decimal::width_of(n) + decimal::width_of(place) + 10;
+    if output::fits(out.len(), at, line) {
+        let a = output::put_text(out, at, b"refused ");
+        let b = decimal::put_decimal(out, a, n);
+        let c = output::put_text(out, b, b" ");
+        let d = decimal::put_decimal(out, c, place);
+        return output::put_text(out, d, b"\n");
+    }
+    at
+}
+
 // Puts the line of a verdict; the offset behind it, or the same where it does not fit and nothing is written. The line is short,
 // since the verdict's numbers are the machine's.
 pub fn put_verdict(out: &mut [u8], at: usize, verdict: Verdict) -> usize
@@ -46,8 +76,8 @@ pub fn put_verdict(out: &mut [u8], at: usize, verdict: Verdict) -> usize
     ensures { λ _. ⌜ length (verdictLine (said verdict)) ≤ 50 ⌝ }
 {
     match verdict {
-        Verdict::Accepted(count) => verdict_line::put_accepted(out, at, count),
-        Verdict::Refused { number, place } => verdict_line::put_refused(out, at, number, place),
+        Verdict::Accepted(count) => put_accepted(out, at, count),
+        Verdict::Refused { number, place } => put_refused(out, at, number, place),
     }
 }
 
@@ -92,5 +122,5 @@ pub fn put_report(out: &mut [u8], s: &[u8]) -> usize
         let end = put_elements(out, head, s);
         return put_verdict(out, end, whole::check(s));
     }
-    verdict_line::put_refused(out, head, 20, 0)
+    put_refused(out, head, 20, 0)
 }

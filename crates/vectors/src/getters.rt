@@ -5,11 +5,11 @@ use crate::values::is_value;
 use document::Found;
 use reading::Reading;
 use reading::Which;
-use typed_numbers::Bool;
-use typed_numbers::F64;
-use typed_numbers::I32;
-use typed_numbers::I64;
-use typed_numbers::Timestamp;
+use typed::Bool;
+use typed::F64;
+use typed::I32;
+use typed::I64;
+use typed::Timestamp;
 use value::Value;
 
 fn double(answer: F64) -> Reading {
@@ -91,11 +91,11 @@ pub fn are_parts_found(document: &[u8], key: &[u8], tag: u8, limit: usize, found
 
 fn is_regex(document: &[u8], key: &[u8], found: Found) -> bool {
     cstr::equal(
-        typed_parts::get_regex(document, key, Which::First),
+        typed::get_regex(document, key, Which::First),
         part_of(document, found, Which::First),
     )
         & cstr::equal(
-            typed_parts::get_regex(document, key, Which::Second),
+            typed::get_regex(document, key, Which::Second),
             part_of(document, found, Which::Second),
         )
 }
@@ -104,11 +104,11 @@ fn is_regex(document: &[u8], key: &[u8], found: Found) -> bool {
 fn is_part_getter(document: &[u8], key: &[u8], tag: u8, found: Found) -> bool {
     let part = part_of(document, found, Which::First);
     match tag {
-        0x02 => cstr::equal(typed_parts::get_str(document, key), part),
-        0x03 => cstr::equal(typed_parts::get_document(document, key), part),
-        0x04 => cstr::equal(typed_parts::get_array(document, key), part),
-        0x05 => cstr::equal(typed_parts::get_binary(document, key), part),
-        0x07 => cstr::equal(typed_parts::get_object_id(document, key), part),
+        0x02 => cstr::equal(typed::get_str(document, key), part),
+        0x03 => cstr::equal(typed::get_document(document, key), part),
+        0x04 => cstr::equal(typed::get_array(document, key), part),
+        0x05 => cstr::equal(typed::get_binary(document, key), part),
+        0x07 => cstr::equal(typed::get_object_id(document, key), part),
         0x0B => is_regex(document, key, found),
         _ => true,
     }
@@ -117,12 +117,12 @@ fn is_part_getter(document: &[u8], key: &[u8], tag: u8, found: Found) -> bool {
 // Whether the getter of the tag, where there is one, answers what the list has; of a part, what the lookup found.
 pub fn is_getter(said: &[u8], document: &[u8], key: &[u8], tag: u8, found: Found) -> bool {
     match tag {
-        0x01 => is_number(said, double(typed_numbers::get_f64(document, key))),
-        0x08 => is_number(said, boolean(typed_numbers::get_bool(document, key))),
-        0x09 => is_number(said, datetime(typed_numbers::get_datetime(document, key))),
-        0x10 => is_number(said, int32(typed_numbers::get_i32(document, key))),
-        0x11 => is_number(said, timestamp(typed_numbers::get_timestamp(document, key))),
-        0x12 => is_number(said, int64(typed_numbers::get_i64(document, key))),
+        0x01 => is_number(said, double(typed::get_f64(document, key))),
+        0x08 => is_number(said, boolean(typed::get_bool(document, key))),
+        0x09 => is_number(said, datetime(typed::get_datetime(document, key))),
+        0x10 => is_number(said, int32(typed::get_i32(document, key))),
+        0x11 => is_number(said, timestamp(typed::get_timestamp(document, key))),
+        0x12 => is_number(said, int64(typed::get_i64(document, key))),
         _ => is_part_getter(document, key, tag, found),
     }
 }

@@ -19,11 +19,10 @@ use Rattle.laws.proofs.StepLaws.{Yields, step-yields}
 use Rattle.laws.proofs.AdvanceLaws.{step-unadmitted, refused-place}
 use Rattle.laws.proofs.OpenLaws.{value-opens}
 use Rattle.laws.proofs.CheckLaws.{visit-says, walk-from, walk-eq, walk-ends, walk-refused, walk-onward}
-use Rattle.opening.specs.Said as opening
-use Rattle.opening.specs.declared.Opening as declared
-use Rattle.visiting.specs.Said.{saidVisited}
-use Rattle.visiting.specs.declared.Visited.{Visited}
-use Rattle.visiting.specs.declared.Visited.the-variants.{Is, Refused}
+use Rattle.visit.specs.declared.Opening as declared
+use Rattle.visit.specs.Said.{saidOpening, saidVisited}
+use Rattle.visit.specs.declared.Visited.{Visited}
+use Rattle.visit.specs.declared.Visited.the-variants.{Is, Refused}
 
 unless-at-0 : {A : Type 0} (b : Bool) (k : ℕ) (x : Answer A) (n p : ℕ) → (x ≡ refuses n p → p ≡ 0) → unless b k x ≡ refuses n p → p ≡ 0
 unless-at-0 true k x n p f q = f q
@@ -90,7 +89,7 @@ enters strict s l position c e y isArray levels inner v =
     record { ends = omega arith; shorter = omega arith; shallow = r .shallow; few = levels-few (r .value) isArray levels inner (r .is) }
 
 -- what a visit answered, by the case that it turned out to be
-pub visited-is : (p : ℕ) (a : Answer Opening) (r : Visited) (o : declared.Opening) → saidVisited p r ≡ a → r ≡ Is o → a ≡ gives (opening.said o)
+pub visited-is : (p : ℕ) (a : Answer Opening) (r : Visited) (o : declared.Opening) → saidVisited p r ≡ a → r ≡ Is o → a ≡ gives (saidOpening o)
 unfolding saidVisited
 visited-is p a r o e q = answered (saidVisited p) e q
 

@@ -8,16 +8,16 @@ ghost use Rattle.bson.specs.Check.{visit as visitOf, opened, walkUnder, checkUn
 ghost use Rattle.laws.proofs.StepLaws.{Yields};
 ghost use Rattle.cstr.specs.Said.{limitOf};
 ghost use Rattle.iter.specs.Said.{saidElement};
-ghost use Rattle.visiting.specs.Said.{saidLevel, saidVisited};
+ghost use Rattle.visit.specs.Said.{saidLevel, saidVisited};
 ghost use Rattle.whole.specs.Said.{said};
 ghost use Rattle.whole.specs.Told.{Holds};
 use iter::Cursor;
 use iter::Element;
 use iter::Step;
-use opening::Opening;
 use tags::Kind;
-use visiting::Level;
-use visiting::Visited;
+use visit::Level;
+use visit::Opening;
+use visit::Visited;
 
 // How many values there are, those inside values included, or the number and the place of the first refusal.
 pub enum Verdict {
@@ -121,7 +121,7 @@ fn visit_framed(s: &[u8], strict: bool, level: Level, element: Element) -> Visit
             levels: 1,
             inner,
         }),
-        Told::Unread => visiting::visit(s, strict, level, element),
+        Told::Unread => visit::visit(s, strict, level, element),
     }
 }
 

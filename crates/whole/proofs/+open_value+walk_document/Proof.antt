@@ -19,9 +19,9 @@ use Rattle.laws.proofs.BytesLaws.{slice-part}
 use Rattle.laws.proofs.StepLaws.{step-yields}
 use Rattle.laws.proofs.AdvanceLaws.{next-lands}
 use Rattle.laws.proofs.CheckLaws.{opened-count}
-use Rattle.visiting.specs.Said.{saidLevel}
+use Rattle.visit.specs.Said.{saidLevel}
 use Rattle.whole.specs.Said.{said}
-use Rattle.visiting.specs.declared.Visited.the-variants.{Is}
+use Rattle.visit.specs.declared.Visited.the-variants.{Is}
 use Rattle.whole.proofs.Walk.{refused-before, yields-placed, opened-refused, opened-closed, opened-inside}
 use Rattle.whole.proofs.Walk.{Enters, enters, visited-is, visited-refused}
 use Rattle.whole.proofs.Walk.{LeftFrom, left-first, left-ends, left-refused, left-value-refused, left-onward}

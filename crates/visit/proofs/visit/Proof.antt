@@ -1,0 +1,72 @@
+-- `visit::visit` meets its contract: key, reading and depth in this order. Assumes nothing.
+use mathlib.Core.Path.{sym, _∙_}
+use native.Mathlib.Omega.{arith}
+use borrow.Author.Tests.{lt-leb}
+use Rattle.bson.specs.Check.{visit}
+use Rattle.laws.proofs.AnswerLaws.{answered}
+use Rattle.laws.proofs.CheckLaws.{visit-gives}
+use Rattle.reading.specs.Said as reading
+use Rattle.visit.specs.Said.{saidVisited}
+use borrow.Author.Needs.{needs}
+use Rattle.visit.proofs.visit.Statement.{statement}
+use Rattle.visit.proofs.visit.Tie as tie
+
+key-passes-requires : tie.Need-key-passes-requires
+key-passes-requires c κs = search needs
+
+value-of-requires : tie.Need-value-of-requires
+value-of-requires c κs = search needs
+
+enum-known-number : tie.Need-enum-known-number
+enum-known-number c = search needs
+
+enum-known-value : tie.Need-enum-known-value
+enum-known-value c = search needs
+
+opening-of-requires : tie.Need-opening-of-requires
+opening-of-requires c κs = search needs
+
+returns : tie.Need-returns
+unfolding saidVisited
+returns c position =
+    let b = c .before .before .before .before in
+    let k = b .before .before .before .before in
+    sym (visit-gives _ _ _ position _ _ (record {
+      key = sym (k .key-passes .ensures position) ∙ b .before .before .before .if1 .taken;
+      value = _;
+      reads = answered reading.said (b .before .before .value-of .ensures) (b .value .given .1);
+      shallow = omega arith;
+      is = sym (c .opening-of .ensures);
+    }))
+
+returns-2 : tie.Need-returns-2
+unfolding visit saidVisited
+returns-2 c position =
+    let b = c .before in
+    let k = sym (b .before .before .before .before .key-passes .ensures position) ∙ b .before .before .before .if1 .taken in
+    rw (k, answered reading.said (b .before .before .value-of .ensures) (b .number .given .1))
+
+returns-3 : tie.Need-returns-3
+unfolding visit saidVisited
+returns-3 c position =
+    let b = c .before .before .before in
+    let k = sym (b .before .before .before .before .key-passes .ensures position) ∙ b .before .before .before .if1 .taken in
+    rw (k, answered reading.said (b .before .before .value-of .ensures) (b .value .given .1), lt-leb _ _ (c .if2 .left))
+
+returns-4 : tie.Need-returns-4
+unfolding visit saidVisited
+returns-4 c position = rw (sym (c .before .key-passes .ensures position) ∙ c .if1 .left)
+
+pub visit-spec : {M : Type 1} → statement M
+visit-spec =
+    tie.close
+    (tie.spec
+    key-passes-requires
+    value-of-requires
+    enum-known-number
+    enum-known-value
+    opening-of-requires
+    returns
+    returns-2
+    returns-3
+    returns-4)
