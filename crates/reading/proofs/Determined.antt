@@ -14,7 +14,7 @@ use Rattle.value.proofs.Determined.{unsaidValue, value-again}
 use Rattle.reading.specs.Said.{said, saidParts}
 use Rattle.reading.specs.declared.Reading.{Reading}
 use Rattle.reading.specs.declared.Reading.the-variants.{Is, Refused}
-use Rattle.reading.specs.declared.Parts.{Parts}
+use Rattle.reading.specs.declared.TwoParts.{TwoParts}
 use Rattle.reading.proofs.value_of.Reads as value-of-reads
 use Rattle.reading.proofs.value_of.Kinds as value-of-kinds
 use Rattle.reading.proofs.read_at_under.Reads as read-at-under-reads
@@ -33,6 +33,28 @@ use Rattle.reading.proofs.part_at_under.Reads as part-at-under-reads
 use Rattle.reading.proofs.part_at_under.Kinds as part-at-under-kinds
 use Rattle.reading.proofs.part_at.Reads as part-at-reads
 use Rattle.reading.proofs.part_at.Kinds as part-at-kinds
+use Rattle.reading.proofs.parts.string.Reads as string-reads
+use Rattle.reading.proofs.parts.string.Kinds as string-kinds
+use Rattle.reading.proofs.parts.code.Reads as code-reads
+use Rattle.reading.proofs.parts.code.Kinds as code-kinds
+use Rattle.reading.proofs.parts.symbol.Reads as symbol-reads
+use Rattle.reading.proofs.parts.symbol.Kinds as symbol-kinds
+use Rattle.reading.proofs.parts.document.Reads as document-reads
+use Rattle.reading.proofs.parts.document.Kinds as document-kinds
+use Rattle.reading.proofs.parts.array.Reads as array-reads
+use Rattle.reading.proofs.parts.array.Kinds as array-kinds
+use Rattle.reading.proofs.parts.binary.Reads as binary-reads
+use Rattle.reading.proofs.parts.binary.Kinds as binary-kinds
+use Rattle.reading.proofs.parts.pattern.Reads as pattern-reads
+use Rattle.reading.proofs.parts.pattern.Kinds as pattern-kinds
+use Rattle.reading.proofs.parts.options.Reads as options-reads
+use Rattle.reading.proofs.parts.options.Kinds as options-kinds
+use Rattle.reading.proofs.parts.namespace.Reads as namespace-reads
+use Rattle.reading.proofs.parts.namespace.Kinds as namespace-kinds
+use Rattle.reading.proofs.parts.scope_code.Reads as scope-code-reads
+use Rattle.reading.proofs.parts.scope_code.Kinds as scope-code-kinds
+use Rattle.reading.proofs.parts.scope.Reads as scope-reads
+use Rattle.reading.proofs.parts.scope.Kinds as scope-kinds
 
 abbrev unsaid : Answer paper.Value → Reading
 unsaid = unsaidAt (λ v. Is (unsaidValue v)) Refused
@@ -59,7 +81,7 @@ read-with-under-determined κs a r₁ r₂ s₁ s₂ p q = said-injective r₁ r
 pub read-with-determined : (κs : Lfts 1) (a : Dens κs read-with-kinds.ps) → Determined (read-with-reads.Post κs a)
 read-with-determined κs a r₁ r₂ s₁ s₂ p q = said-injective r₁ r₂ (p ∙ sym q)
 
-abbrev unsaidParts : bytes.Part × bytes.Part → Parts
+abbrev unsaidParts : bytes.Part × bytes.Part → TwoParts
 unsaidParts p = record { 0 = unsaidPart (p .0); 1 = unsaidPart (p .1) }
 
 pub parts-of-determined : (κs : Lfts 0) (a : Dens κs parts-of-kinds.ps) → Determined (parts-of-reads.Post κs a)
@@ -73,3 +95,36 @@ part-at-under-determined κs a r₁ r₂ s₁ s₂ p q = p ∙ sym q
 
 pub part-at-determined : (κs : Lfts 1) (a : Dens κs part-at-kinds.ps) → DeterminedPart now (part-at-reads.Post κs a)
 part-at-determined κs a r₁ r₂ s₁ s₂ p q = p ∙ sym q
+
+pub string-determined : (κs : Lfts 1) (a : Dens κs string-kinds.ps) → DeterminedPart now (string-reads.Post κs a)
+string-determined κs a r₁ r₂ s₁ s₂ p q = p ∙ sym q
+
+pub code-determined : (κs : Lfts 1) (a : Dens κs code-kinds.ps) → DeterminedPart now (code-reads.Post κs a)
+code-determined κs a r₁ r₂ s₁ s₂ p q = p ∙ sym q
+
+pub symbol-determined : (κs : Lfts 1) (a : Dens κs symbol-kinds.ps) → DeterminedPart now (symbol-reads.Post κs a)
+symbol-determined κs a r₁ r₂ s₁ s₂ p q = p ∙ sym q
+
+pub document-determined : (κs : Lfts 1) (a : Dens κs document-kinds.ps) → DeterminedPart now (document-reads.Post κs a)
+document-determined κs a r₁ r₂ s₁ s₂ p q = p ∙ sym q
+
+pub array-determined : (κs : Lfts 1) (a : Dens κs array-kinds.ps) → DeterminedPart now (array-reads.Post κs a)
+array-determined κs a r₁ r₂ s₁ s₂ p q = p ∙ sym q
+
+pub binary-determined : (κs : Lfts 1) (a : Dens κs binary-kinds.ps) → DeterminedPart now (binary-reads.Post κs a)
+binary-determined κs a r₁ r₂ s₁ s₂ p q = p ∙ sym q
+
+pub pattern-determined : (κs : Lfts 1) (a : Dens κs pattern-kinds.ps) → DeterminedPart now (pattern-reads.Post κs a)
+pattern-determined κs a r₁ r₂ s₁ s₂ p q = p ∙ sym q
+
+pub options-determined : (κs : Lfts 1) (a : Dens κs options-kinds.ps) → DeterminedPart now (options-reads.Post κs a)
+options-determined κs a r₁ r₂ s₁ s₂ p q = p ∙ sym q
+
+pub namespace-determined : (κs : Lfts 1) (a : Dens κs namespace-kinds.ps) → DeterminedPart now (namespace-reads.Post κs a)
+namespace-determined κs a r₁ r₂ s₁ s₂ p q = p ∙ sym q
+
+pub scope-code-determined : (κs : Lfts 1) (a : Dens κs scope-code-kinds.ps) → DeterminedPart now (scope-code-reads.Post κs a)
+scope-code-determined κs a r₁ r₂ s₁ s₂ p q = p ∙ sym q
+
+pub scope-determined : (κs : Lfts 1) (a : Dens κs scope-kinds.ps) → DeterminedPart now (scope-reads.Post κs a)
+scope-determined κs a r₁ r₂ s₁ s₂ p q = p ∙ sym q

@@ -10,7 +10,7 @@ use Rattle.reading.specs.declared.Reading.{Reading}
 use Rattle.reading.specs.declared.Reading.the-variants.{Is, Refused}
 use Rattle.reading.specs.declared.Located.{Located}
 use Rattle.reading.specs.declared.Located.the-variants as located
-use Rattle.reading.specs.declared.Parts.{Parts}
+use Rattle.reading.specs.declared.TwoParts.{TwoParts}
 use Rattle.reading.specs.declared.Which.{Which}
 use Rattle.reading.specs.declared.Which.the-variants.{First, Second}
 
@@ -22,7 +22,7 @@ abbrev pub saidLocated : Located → Answer step.Element
 saidLocated (located.Is e) = gives (saidElement e)
 saidLocated (located.Refused number place) = refuses number place
 
-abbrev pub saidParts : Parts → bytes.Part × bytes.Part
+abbrev pub saidParts : TwoParts → bytes.Part × bytes.Part
 saidParts p = (part.said (p .0), part.said (p .1))
 
 abbrev pub saidWhich : Which → paper.Which

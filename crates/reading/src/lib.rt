@@ -1,4 +1,6 @@
 // Reading a value at a place, and the parts of a value (document 01, "Values"; `RawElement::value` in src/raw/iter.rs of the Rust).
+pub mod parts;
+
 ghost use mathlib.Core.Path.{_≡_};
 ghost use Rattle.bson.specs.Value.{valueOf, elementAtUnder, readAtUnder, readWithUnder, readAt, readWith, ofTag, partsOf, partOf, partAtUnder, partAt};
 ghost use Rattle.bson.specs.Answer.{then};
@@ -21,7 +23,7 @@ pub enum Reading {
 }
 
 // The parts of a value in the order in which they lie; empty parts for those that it has not.
-pub struct Parts(pub Part, pub Part);
+pub struct TwoParts(pub Part, pub Part);
 
 // Which part of a value: the first is the text, the data, the document, the ObjectId, the decimal128, the pattern, the
 // namespace, the code; the second the options, the DBPointer's ObjectId, the scope.
@@ -117,35 +119,35 @@ pub fn read_with(s: &[u8], place: usize, tag: u8) -> Reading
     read_with_under(s, place, tag, cstr::NO_LIMIT)
 }
 
-pub fn parts_of(value: Value) -> Parts
+pub fn parts_of(value: Value) -> TwoParts
     ensures { λ r. ⌜ saidParts r ≡ partsOf (saidValue value) ⌝ }
 {
     let none = Part { offset: 0, size: 0 };
     match value {
-        Value::Double(_) => Parts(none, none),
-        Value::String(text) => Parts(text, none),
-        Value::Document(document) => Parts(document, none),
-        Value::Array(array) => Parts(array, none),
-        Value::Binary { subtype: _, data } => Parts(data, none),
-        Value::Undefined => Parts(none, none),
-        Value::ObjectId(id) => Parts(id, none),
-        Value::Boolean(_) => Parts(none, none),
-        Value::DateTime(_) => Parts(none, none),
-        Value::Null => Parts(none, none),
-        Value::RegularExpression { pattern, options } => Parts(pattern, options),
-        Value::DbPointer { namespace, id } => Parts(namespace, id),
-        Value::JavaScriptCode(code) => Parts(code, none),
-        Value::Symbol(symbol) => Parts(symbol, none),
-        Value::JavaScriptCodeWithScope { code, scope } => Parts(code, scope),
-        Value::Int32(_) => Parts(none, none),
+        Value::Double(_) => TwoParts(none, none),
+        Value::String(text) => TwoParts(text, none),
+        Value::Document(document) => TwoParts(document, none),
+        Value::Array(array) => TwoParts(array, none),
+        Value::Binary { subtype: _, data } => TwoParts(data, none),
+        Value::Undefined => TwoParts(none, none),
+        Value::ObjectId(id) => TwoParts(id, none),
+        Value::Boolean(_) => TwoParts(none, none),
+        Value::DateTime(_) => TwoParts(none, none),
+        Value::Null => TwoParts(none, none),
+        Value::RegularExpression { pattern, options } => TwoParts(pattern, options),
+        Value::DbPointer { namespace, id } => TwoParts(namespace, id),
+        Value::JavaScriptCode(code) => TwoParts(code, none),
+        Value::Symbol(symbol) => TwoParts(symbol, none),
+        Value::JavaScriptCodeWithScope { code, scope } => TwoParts(code, scope),
+        Value::Int32(_) => TwoParts(none, none),
         Value::Timestamp {
             increment: _,
             seconds: _,
-        } => Parts(none, none),
-        Value::Int64(_) => Parts(none, none),
-        Value::Decimal128(decimal) => Parts(decimal, none),
-        Value::MinKey => Parts(none, none),
-        Value::MaxKey => Parts(none, none),
+        } => TwoParts(none, none),
+        Value::Int64(_) => TwoParts(none, none),
+        Value::Decimal128(decimal) => TwoParts(decimal, none),
+        Value::MinKey => TwoParts(none, none),
+        Value::MaxKey => TwoParts(none, none),
     }
 }
 

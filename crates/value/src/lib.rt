@@ -1,4 +1,6 @@
 // What a framed value holds (document 01, "Values"; src/raw/value.rs of the Rust).
+mod inside;
+
 ghost use Prim.Native.Nat.{_+_, _<_, _≤_};
 ghost use mathlib.Core.Path.{_≡_};
 ghost use lib.ListN.{length, getD};

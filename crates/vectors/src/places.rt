@@ -12,6 +12,7 @@ use iter::Element;
 use iter::Step;
 use part::Part;
 use reading::Reading;
+use reading::parts;
 use whole::Verdict;
 
 fn say_refusal(number: u8, place: usize) {

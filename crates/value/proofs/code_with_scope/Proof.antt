@@ -3,7 +3,7 @@ use native.Mathlib.Omega.{arith}
 use borrow.Author.Needs.{needs}
 use Rattle.laws.proofs.AnswerLaws.{answered}
 use Rattle.cstr.specs.Said as length-is
-use Rattle.inside.proofs.CodeLaws.{code-is, scope-value}
+use Rattle.value.proofs.CodeLaws.{code-is, scope-value}
 use Rattle.value.proofs.code_with_scope.Statement.{statement}
 use Rattle.value.proofs.code_with_scope.Tie as tie
 

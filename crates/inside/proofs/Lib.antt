@@ -1,2 +1,0 @@
-pub mod CodeLaws
-pub mod Determined

@@ -1,0 +1,13 @@
+-- `reading::parts::scope_code` meets its contract: it is the part that the call hands back. Assumes nothing.
+use borrow.Author.Needs.{needs}
+use Rattle.reading.proofs.parts.scope_code.Statement.{statement}
+use Rattle.reading.proofs.parts.scope_code.Tie as tie
+
+part-at-requires : tie.Need-part-at-requires
+part-at-requires c κs = search needs
+
+returns : tie.Need-returns
+returns c = c .part-at .ensures
+
+pub scope-code-spec : {M : Type 1} → statement M
+scope-code-spec = tie.close (tie.spec part-at-requires returns)

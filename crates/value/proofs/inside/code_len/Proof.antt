@@ -1,0 +1,123 @@
+-- `value::inside::code_len` meets its contract: each way out by the tests and the answers that led there. Assumes nothing.
+use mathlib.Core.Path.{sym, _∙_}
+use native.Mathlib.Omega.{arith}
+use borrow.Author.Tests.{le-leb, lt-leb, not-true, not-false}
+use borrow.Author.Needs.{needs}
+use Rattle.bson.specs.Framing.{stringSize}
+use Rattle.laws.proofs.AnswerLaws.{answered, rest-answered}
+use Rattle.laws.proofs.FramingLaws.{string-is}
+use Rattle.cstr.specs.Said.{said}
+use Rattle.value.specs.Code.{codeSize}
+use Rattle.value.proofs.inside.code_len.Statement.{statement}
+use Rattle.value.proofs.inside.code_len.Tie as tie
+
+returns : tie.Need-returns
+unfolding codeSize
+returns c = rw (lt-leb _ _ (c .if1 .taken))
+
+sub-read-len : tie.Need-sub-read-len
+sub-read-len c = search needs
+
+part-read-len-start : tie.Need-part-read-len-start
+part-read-len-start c = search needs
+
+part-read-len-end : tie.Need-part-read-len-end
+part-read-len-end c = search needs
+
+read-len-requires : tie.Need-read-len-requires
+read-len-requires c κs = search needs
+
+enum-known-number : tie.Need-enum-known-number
+enum-known-number c = search needs
+
+enum-known-n : tie.Need-enum-known-n
+enum-known-n c = search needs
+
+sub-size : tie.Need-sub-size
+sub-size c = omega (arith, string-is _ _ (answered said (c .before .before .before .read-len .ensures) (c .before .n .given .1)))
+
+is-text-requires : tie.Need-is-text-requires
+is-text-requires c κs = search needs
+
+returns-2 : tie.Need-returns-2
+unfolding codeSize
+returns-2 c =
+    let d = c .before .before .before in
+    let v = d .before .before .before .before .before .before .args .v .now in
+    rw (
+      le-leb _ _ (d .before .before .before .before .if1 .left),
+      rest-answered said stringSize v 4 (d .before .before .read-len .ensures) (d .n .given .1),
+      sym (c .before .is-text .ensures) ∙ not-true _ (c .if2 .taken),
+    )
+
+add-scope : tie.Need-add-scope
+add-scope c =
+    let d = c .before .before .before in
+    omega (arith, string-is _ _ (answered said (d .before .before .read-len .ensures) (d .n .given .1)))
+
+scope-requires : tie.Need-scope-requires
+scope-requires c κs = search needs
+
+enum-known-number-2 : tie.Need-enum-known-number-2
+enum-known-number-2 c = search needs
+
+enum-told : tie.Need-enum-told
+enum-told c = search needs
+
+returns-3 : tie.Need-returns-3
+unfolding codeSize
+returns-3 c =
+    let d = c .before .before .before in
+    let v = d .before .before .before .before .args .v .now in
+    rw (
+      le-leb _ _ (d .before .before .if1 .left),
+      rest-answered said stringSize v 4 (d .read-len .ensures) (c .before .number .given .1),
+    )
+
+returns-4 : tie.Need-returns-4
+unfolding codeSize
+returns-4 c =
+    let t = c .before .before .before in
+    let d = t .before .before .before .before in
+    let v = d .before .before .before .before .before .before .args .v .now in
+    rw (
+      le-leb _ _ (d .before .before .before .before .if1 .left),
+      rest-answered said stringSize v 4 (d .before .before .read-len .ensures) (d .n .given .1),
+      sym (t .before .before .is-text .ensures) ∙ not-false _ (t .before .if2 .left),
+      answered said (t .scope .ensures) (c .before .number2 .given .1),
+    )
+
+returns-5 : tie.Need-returns-5
+unfolding codeSize
+returns-5 c =
+    let t = c .before .before in
+    let d = t .before .before .before .before in
+    let v = d .before .before .before .before .before .before .args .v .now in
+    rw (
+      le-leb _ _ (d .before .before .before .before .if1 .left),
+      rest-answered said stringSize v 4 (d .before .before .read-len .ensures) (d .n .given .1),
+      sym (t .before .before .is-text .ensures) ∙ not-false _ (t .before .if2 .left),
+      answered said (t .scope .ensures) (c .enum-told .given .1),
+    )
+
+pub code-len-spec : {M : Type 1} → statement M
+code-len-spec =
+    tie.close
+    (tie.spec
+    returns
+    sub-read-len
+    part-read-len-start
+    part-read-len-end
+    read-len-requires
+    enum-known-number
+    enum-known-n
+    sub-size
+    is-text-requires
+    returns-2
+    add-scope
+    scope-requires
+    enum-known-number-2
+    enum-told
+    returns-3
+    returns-4
+    returns-5)

@@ -1,0 +1,70 @@
+-- `value::inside::is_old_binary` meets its contract: the second length stands in the rest from 5. Assumes nothing.
+use mathlib.Core.Path.{ap}
+use native.Mathlib.Omega.{arith}
+use lib.ListN.{length, length-drop}
+use borrow.Author.Tests.{le-leb, lt-leb}
+use borrow.Author.Needs.{needs}
+use Rattle.bson.specs.Bytes.{le32}
+use Rattle.laws.proofs.AnswerLaws.{answered}
+use Rattle.laws.proofs.Common.{rest-part}
+use Rattle.laws.proofs.FramingLaws.{in-front-is, in-front-refuses}
+use Rattle.num.specs.Said.{saidUint32}
+use Rattle.value.proofs.inside.is_old_binary.Statement.{statement}
+use Rattle.value.proofs.inside.is_old_binary.Tie as tie
+
+returns : tie.Need-returns
+returns c = rw (lt-leb _ _ (c .if1 .taken))
+
+sub-u32-from-slice : tie.Need-sub-u32-from-slice
+sub-u32-from-slice c = search needs
+
+part-u32-from-slice-start : tie.Need-part-u32-from-slice-start
+part-u32-from-slice-start c = search needs
+
+part-u32-from-slice-end : tie.Need-part-u32-from-slice-end
+part-u32-from-slice-end c = search needs
+
+u32-from-slice-requires : tie.Need-u32-from-slice-requires
+u32-from-slice-requires c κs = search needs
+
+enum-told : tie.Need-enum-told
+enum-told c = search needs
+
+enum-known-n : tie.Need-enum-known-n
+enum-known-n c = search needs
+
+cast-result : tie.Need-cast-result
+cast-result c = search needs
+
+sub-result : tie.Need-sub-result
+sub-result c = search needs
+
+returns-2 : tie.Need-returns-2
+returns-2 c =
+    let b = c .before .before in
+    let v = b .before .before .before .before .args .v .now in
+    let h = in-front-refuses 4 le32 _ _ _ (answered saidUint32 (b .u32-from-slice .ensures) (c .enum-told .given .1)) in
+    absurd (omega (arith, ap length (rest-part v 5), length-drop 5 v))
+
+returns-3 : tie.Need-returns-3
+returns-3 c =
+    let d = c .before in
+    let v = d .before .before .before .before .before .before .args .v .now in
+    let e = in-front-is 4 le32 _ _ (answered saidUint32 (d .before .before .u32-from-slice .ensures) (d .n .given .1)) in
+    rw (le-leb 9 (length v) (omega arith), ← e .1, rest-part v 5)
+
+pub is-old-binary-spec : {M : Type 1} → statement M
+is-old-binary-spec =
+    tie.close
+    (tie.spec
+    returns
+    sub-u32-from-slice
+    part-u32-from-slice-start
+    part-u32-from-slice-end
+    u32-from-slice-requires
+    enum-told
+    enum-known-n
+    cast-result
+    sub-result
+    returns-2
+    returns-3)

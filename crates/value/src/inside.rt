@@ -1,0 +1,66 @@
+// What the bytes of a framed value are tested for: text, the second length of old binary data, code and its scope (document 01,
+// "Values"; src/raw/value.rs of the Rust).
+ghost use Prim.Native.Nat.{_-_};
+ghost use mathlib.Core.Path.{_≡_};
+ghost use mathlib.Core.Bool.{_&&_};
+ghost use lib.Dec.{leb, eqb};
+ghost use lib.ListN.{length, drop};
+ghost use Rattle.bson.specs.Bytes.{le32, bytes};
+ghost use Rattle.bson.specs.Utf8.{utf8};
+ghost use Rattle.cstr.specs.Said.{said};
+ghost use Rattle.part.specs.Said as onPaper;
+ghost use Rattle.value.specs.Code.{codeSize, scopeAt};
+use cstr::Length;
+use num::Uint32;
+use part::Part;
+
+pub fn is_text(s: &[u8], part: Part) -> bool
+    ensures { λ r. ⌜ r ≡ utf8 (bytes (now (s .entry)) (onPaper.said part)) ⌝ }
+{
+    utf8::is_utf8(part::bytes_of(s, part))
+}
+
+// Whether data of subtype 2 begins with a length equal to the bytes behind it.
+pub fn is_old_binary(v: &[u8]) -> bool
+    ensures { λ r. ⌜ r ≡ (leb 9 (length (now (v .entry))) && eqb (le32 (drop 5 (now (v .entry)))) (length (now (v .entry)) - 9)) ⌝ }
+{
+    if v.len() < 9 {
+        return false;
+    }
+    match num::u32_from_slice(&v[5..]) {
+        Uint32::Refused(_) => false,
+        Uint32::Is(n) => (n as usize) == v.len() - 9,
+    }
+}
+
+// The document behind the code, from a start on to the end of the value.
+fn scope(v: &[u8], start: usize) -> Length
+    ensures { λ r. ⌜ said r ≡ scopeAt (now (v .entry)) start ⌝ }
+{
+    if v.len() <= start {
+        return Length::Refused(12);
+    }
+    raw::admit(&v[start..])
+}
+
+// The code of a value of both, with its length field, before a scope that is admitted: 12, 8, 9, 10, 6, 12, 1, 2, 3, in this order.
+pub fn code_len(v: &[u8]) -> Length
+    ensures { λ r. ⌜ said r ≡ codeSize (now (v .entry)) ⌝ }
+{
+    if v.len() < 14 {
+        return Length::Refused(12);
+    }
+    match raw::read_len(&v[4..]) {
+        Length::Refused(number) => Length::Refused(number),
+        Length::Is(n) => {
+            let size = n - 5;
+            if !is_text(v, Part { offset: 8, size }) {
+                return Length::Refused(6);
+            }
+            match scope(v, 4 + n) {
+                Length::Refused(number) => Length::Refused(number),
+                Length::Is(_) => Length::Is(n),
+            }
+        }
+    }
+}
