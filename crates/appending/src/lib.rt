@@ -144,7 +144,7 @@ pub fn head(
     let room = writer_state::room_of(out.len());
     match writer_state::innermost(words, room) {
         Told::Is(kind) => head_in(out, words, room, kind, more, tag, key, good, size),
-        Told::Refused(n) => n,
+        Told::Refused(number) => number,
     }
 }
 

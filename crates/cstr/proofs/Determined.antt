@@ -1,11 +1,9 @@
 -- Determined: the promise of each call allows one answer (document 01, "What every answer is bound to"). Assumes nothing.
-use mathlib.Core.Path.{_≡_, refl, sym, _∙_}
+use mathlib.Core.Path.{sym, _∙_}
 use contract.Lifetimes.{Lfts}
 use borrow.Fn.Kinds.{Dens}
-use Rattle.laws.proofs.Determined.{Determined, injective-by, unsaid}
-use Rattle.cstr.specs.Said.{said}
-use Rattle.cstr.specs.declared.Length.{Length}
-use Rattle.cstr.specs.declared.Length.the-variants.{Is, Refused}
+use Rattle.laws.proofs.Determined.{Determined}
+use Rattle.part.proofs.Determined.{length-injective}
 use Rattle.cstr.proofs.read_cstring.Reads as read-cstring-reads
 use Rattle.cstr.proofs.read_cstring.Kinds as read-cstring-kinds
 use Rattle.cstr.proofs.read_cstring_with_max_len.Reads as read-max-reads
@@ -17,18 +15,11 @@ use Rattle.cstr.proofs.is_valid_cstr.Kinds as is-valid-cstr-kinds
 use Rattle.cstr.proofs.equal.Reads as equal-reads
 use Rattle.cstr.proofs.equal.Kinds as equal-kinds
 
-again : (r : Length) → unsaid Is Refused (said r) ≡ r
-again (Is n) = refl
-again (Refused k) = refl
-
-pub said-injective : (a b : Length) → said a ≡ said b → a ≡ b
-said-injective = injective-by said (unsaid Is Refused) again
-
 pub read-cstring-determined : (κs : Lfts 1) (a : Dens κs read-cstring-kinds.ps) → Determined (read-cstring-reads.Post κs a)
-read-cstring-determined κs a r₁ r₂ s₁ s₂ p q = said-injective r₁ r₂ (p ∙ sym q)
+read-cstring-determined κs a r₁ r₂ s₁ s₂ p q = length-injective r₁ r₂ (p ∙ sym q)
 
 pub read-cstring-with-max-len-determined : (κs : Lfts 1) (a : Dens κs read-max-kinds.ps) → Determined (read-max-reads.Post κs a)
-read-cstring-with-max-len-determined κs a r₁ r₂ s₁ s₂ p q = said-injective r₁ r₂ (p ∙ sym q)
+read-cstring-with-max-len-determined κs a r₁ r₂ s₁ s₂ p q = length-injective r₁ r₂ (p ∙ sym q)
 
 pub most-of-determined : (κs : Lfts 0) (a : Dens κs most-of-kinds.ps) → Determined (most-of-reads.Post κs a)
 most-of-determined κs a r₁ r₂ s₁ s₂ p q = p ∙ sym q

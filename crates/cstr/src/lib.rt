@@ -5,14 +5,10 @@ ghost use lib.Dec.{eqb, ltb};
 ghost use lib.ListN.{length, drop};
 ghost use Rattle.bson.specs.Bytes.{same};
 ghost use Rattle.bson.specs.Cstring.{firstZero, seen, missing, zeroText, cstringUnder, cstring, validCstr};
-ghost use Rattle.cstr.specs.Said.{limitOf, capped, said};
+ghost use Rattle.part.specs.Said.{saidLength};
+ghost use Rattle.cstr.specs.Said.{limitOf, capped};
 ghost use Rattle.cstr.specs.Scan.{stopsAt, plain, PlainOf};
-
-// How many bytes a text or a value has, or the number of the refusal.
-pub enum Length {
-    Is(usize),
-    Refused(u8),
-}
+use part::Length;
 
 // A zero byte, or one that is not ASCII.
 fn stops(b: u8) -> bool
@@ -127,7 +123,7 @@ fn number_of(limit: usize) -> u8
 
 // Two passes: the zero byte, then UTF-8.
 fn read_mixed(v: &[u8], number: u8) -> Length
-    ensures { λ r. ⌜ said r ≡ zeroText number (now (v .entry)) ⌝ }
+    ensures { λ r. ⌜ saidLength r ≡ zeroText number (now (v .entry)) ⌝ }
 {
     let n = first_zero(v);
     if n < v.len() {
@@ -142,7 +138,7 @@ fn read_mixed(v: &[u8], number: u8) -> Length
 // The size of the text in front of the first zero byte: 5 where there is none, 6 where the text is not UTF-8. Under a limit so many bytes
 // and one more are looked at: 22 where no zero is among them.
 pub fn read_cstring_with_max_len(buf: &[u8], limit: usize) -> Length
-    ensures { λ r. ⌜ said r ≡ cstringUnder (limitOf limit) (now (buf .entry)) ⌝ }
+    ensures { λ r. ⌜ saidLength r ≡ cstringUnder (limitOf limit) (now (buf .entry)) ⌝ }
 {
     let v = cut(buf, limit);
     let i = plain_end(v);
@@ -157,7 +153,7 @@ pub fn read_cstring_with_max_len(buf: &[u8], limit: usize) -> Length
 
 // The same without a limit: 5, 6.
 pub fn read_cstring(v: &[u8]) -> Length
-    ensures { λ r. ⌜ said r ≡ cstring (now (v .entry)) ⌝ }
+    ensures { λ r. ⌜ saidLength r ≡ cstring (now (v .entry)) ⌝ }
 {
     read_cstring_with_max_len(v, NO_LIMIT)
 }

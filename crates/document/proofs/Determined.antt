@@ -6,7 +6,7 @@ use denote.Ref.{now}
 use Rattle.bson.specs.Answer.{Answer}
 use Rattle.bson.specs.Lookup as paper
 use Rattle.laws.proofs.Determined.{Determined, DeterminedPart, injective-by, unsaid, unsaidAt}
-use Rattle.cstr.proofs.Determined as length
+use Rattle.part.proofs.Determined.{length-injective}
 use Rattle.iter.proofs.Determined.{unsaidElement}
 use Rattle.value.proofs.Determined.{unsaidValue, value-again}
 use Rattle.document.specs.Said.{saidEmpty, said}
@@ -36,7 +36,7 @@ use Rattle.document.proofs.get_part.Reads as get-part-reads
 use Rattle.document.proofs.get_part.Kinds as get-part-kinds
 
 pub from-bytes-determined : (κs : Lfts 1) (a : Dens κs from-bytes-kinds.ps) → Determined (from-bytes-reads.Post κs a)
-from-bytes-determined κs a r₁ r₂ s₁ s₂ p q = length.said-injective r₁ r₂ (p ∙ sym q)
+from-bytes-determined κs a r₁ r₂ s₁ s₂ p q = length-injective r₁ r₂ (p ∙ sym q)
 
 empty-again : (r : Empty) → unsaid empty.Is empty.Refused (saidEmpty r) ≡ r
 empty-again (empty.Is b) = refl

@@ -4,14 +4,14 @@ ghost use Rattle.bson.specs.Answer.{then};
 ghost use Rattle.bson.specs.Step.{admitted};
 ghost use Rattle.bson.specs.Lookup.{found as foundIn, getUnder, getBytesUnder, getWithUnder, getPartUnder, get as lookup, getBytes, getWith, getPart, isEmpty};
 ghost use Rattle.bson.specs.Value.{ofTag};
-ghost use Rattle.cstr.specs.Said as length;
+ghost use Rattle.part.specs.Said.{saidLength};
 ghost use Rattle.cstr.specs.Said.{limitOf};
 ghost use Rattle.iter.specs.Said.{saidElement};
 ghost use Rattle.reading.specs.Said.{saidWhich};
 ghost use Rattle.document.specs.Said.{saidEmpty, said, reads};
-use cstr::Length;
 use iter::Element;
 use iter::Sizes;
+use part::Length;
 use part::Part;
 use reading::Reading;
 use reading::Which;
@@ -30,7 +30,7 @@ pub enum Found {
 
 // Admission: the length of the document that the slice is, else 1, 2, 3.
 pub fn from_bytes(s: &[u8]) -> Length
-    ensures { λ r. ⌜ length.said r ≡ admitted (now (s .entry)) ⌝ }
+    ensures { λ r. ⌜ saidLength r ≡ admitted (now (s .entry)) ⌝ }
 {
     raw::admit(s)
 }

@@ -4,7 +4,7 @@ use mathlib.Core.Path.{_≡_}
 use Rattle.bson.specs.Answer.{Answer, gives, refuses}
 use Rattle.bson.specs.Bytes as bytes
 use Rattle.bson.specs.Step as paper
-use Rattle.part.specs.Said as part
+use Rattle.part.specs.Said.{saidPart}
 use Rattle.iter.specs.declared.Cursor.{Cursor}
 use Rattle.iter.specs.declared.Element.{Element}
 use Rattle.iter.specs.declared.Sizes.{Sizes}
@@ -16,7 +16,7 @@ abbrev pub saidCursor : Cursor → paper.Cursor
 saidCursor c = paper.cursor (c .offset) (c .ended)
 
 abbrev pub saidElement : Element → paper.Element
-saidElement e = record { place = e .place; tag = e .tag; key = part.said (e .key); value = part.said (e .value) }
+saidElement e = record { place = e .place; tag = e .tag; key = saidPart (e .key); value = saidPart (e .value) }
 
 -- the element at a place whose key and value are so long
 abbrev pub sized : ℕ → ℕ → ℕ → ℕ → paper.Element

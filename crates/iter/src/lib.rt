@@ -7,7 +7,7 @@ ghost use Rattle.bson.specs.Answer.{at};
 ghost use Rattle.bson.specs.Step.{cursor, yieldingUnder, stepUnder, keyAtUnder, step, keyAt};
 ghost use Rattle.cstr.specs.Said.{limitOf};
 ghost use Rattle.iter.specs.Said.{saidCursor, saidSizes, Answers};
-use cstr::Length;
+use part::Length;
 use part::Part;
 
 // Where a step begins, and whether the iteration has ended. Any pair gets an answer.
@@ -54,11 +54,11 @@ fn element_at(s: &[u8], place: usize, limit: usize) -> Sizes
 {
     let start = place + 1;
     match cstr::read_cstring_with_max_len(&s[start..], limit) {
-        Length::Refused(why) => Sizes::Refused { number: why, place },
+        Length::Refused(number) => Sizes::Refused { number, place },
         Length::Is(key) => {
             let tag = s[place];
             let offset = start + key + 1;
-            match framing::value_len(tag, &s[offset..], limit) {
+            match raw::value_len(tag, &s[offset..], limit) {
                 Length::Refused(number) => Sizes::Refused { number, place },
                 Length::Is(value) => Sizes::Yield { tag, key, value },
             }

@@ -121,6 +121,6 @@ pub fn close(out: &mut [u8], words: &mut [u32; 406]) -> u8
             pop(words);
             0
         }
-        Told::Refused(n) => n,
+        Told::Refused(number) => number,
     }
 }

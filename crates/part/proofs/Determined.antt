@@ -1,10 +1,13 @@
 -- Determined: the promise of each call allows one answer (document 01, "What every answer is bound to"). Assumes nothing.
-use mathlib.Core.Path.{sym, _∙_}
+use mathlib.Core.Path.{_≡_, refl, sym, _∙_}
 use contract.Lifetimes.{Lfts}
 use borrow.Fn.Kinds.{Dens}
 use denote.Ref.{now}
 use Rattle.bson.specs.Bytes as paper
-use Rattle.laws.proofs.Determined.{DeterminedPart}
+use Rattle.laws.proofs.Determined.{DeterminedPart, injective-by, unsaid}
+use Rattle.part.specs.Said.{saidLength}
+use Rattle.part.specs.declared.Length.{Length}
+use Rattle.part.specs.declared.Length.the-variants.{Is, Refused}
 use Rattle.part.specs.declared.Part.{Part}
 use Rattle.part.proofs.bytes_of.Reads as bytes-of-reads
 use Rattle.part.proofs.bytes_of.Kinds as bytes-of-kinds
@@ -12,6 +15,13 @@ use Rattle.part.proofs.bytes_of.Kinds as bytes-of-kinds
 -- a part back from paper, for the answers that hold one
 abbrev pub unsaidPart : paper.Part → Part
 unsaidPart p = record { offset = p .offset; size = p .size }
+
+again : (r : Length) → unsaid Is Refused (saidLength r) ≡ r
+again (Is n) = refl
+again (Refused k) = refl
+
+pub length-injective : (a b : Length) → saidLength a ≡ saidLength b → a ≡ b
+length-injective = injective-by saidLength (unsaid Is Refused) again
 
 pub bytes-of-determined : (κs : Lfts 1) (a : Dens κs bytes-of-kinds.ps) → DeterminedPart now (bytes-of-reads.Post κs a)
 bytes-of-determined κs a r₁ r₂ s₁ s₂ p q = p ∙ sym q

@@ -1,6 +1,15 @@
--- What a part of the code says on paper: the same offset and size (document 01, "What must change shape").
+-- What parts and lengths of the code say on paper: the same offset and size; a length, or a refusal by its number at no place of its own
+-- (document 01, "What must change shape").
+use Prim.Native.Nat.{ℕ}
+use Rattle.bson.specs.Answer.{Answer, gives, refuses}
 use Rattle.bson.specs.Bytes as paper
+use Rattle.part.specs.declared.Length.{Length}
+use Rattle.part.specs.declared.Length.the-variants.{Is, Refused}
 use Rattle.part.specs.declared.Part.{Part}
 
-abbrev pub said : Part → paper.Part
-said p = paper.part (p .offset) (p .size)
+abbrev pub saidPart : Part → paper.Part
+saidPart p = paper.part (p .offset) (p .size)
+
+abbrev pub saidLength : Length → Answer ℕ
+saidLength (Is n) = gives n
+saidLength (Refused number) = refuses number 0

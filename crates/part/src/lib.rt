@@ -1,16 +1,22 @@
-// A part of a slice, as an offset and a size (document 01, "What must change shape").
+// A part of a slice, as an offset and a size, and the length of what lies in front of one (document 01, "What must change shape").
 ghost use mathlib.Core.Path.{_≡_};
 ghost use Rattle.bson.specs.Bytes.{bytes};
-ghost use Rattle.part.specs.Said.{said};
+ghost use Rattle.part.specs.Said.{saidPart};
 
 pub struct Part {
     pub offset: usize,
     pub size: usize,
 }
 
+// How many bytes a text or a value has, or the number of the refusal.
+pub enum Length {
+    Is(usize),
+    Refused(u8),
+}
+
 // The bytes of a part; of one that runs past the slice, those that are there.
 pub fn bytes_of<'a>(s: &'a [u8], part: Part) -> &'a [u8]
-    ensures { λ r. ⌜ now r ≡ bytes (now (s .entry)) (said part) ⌝ }
+    ensures { λ r. ⌜ now r ≡ bytes (now (s .entry)) (saidPart part) ⌝ }
 {
     let offset = part.offset;
     if s.len() < offset {

@@ -8,7 +8,7 @@ use Rattle.bson.specs.Bytes as bytes
 use Rattle.bson.specs.Value as paper
 use Rattle.laws.proofs.Determined.{Determined, DeterminedPart, injective-by, unsaidAt}
 use Rattle.part.specs.declared.Part.{Part}
-use Rattle.part.specs.Said as part
+use Rattle.part.specs.Said.{saidPart}
 use Rattle.part.proofs.Determined.{unsaidPart}
 use Rattle.value.proofs.Determined.{unsaidValue, value-again}
 use Rattle.reading.specs.Said.{said, saidParts}
@@ -88,7 +88,7 @@ pub parts-of-determined : (κs : Lfts 0) (a : Dens κs parts-of-kinds.ps) → De
 parts-of-determined κs a r₁ r₂ s₁ s₂ p q = injective-by saidParts unsaidParts (λ r. refl) r₁ r₂ (p ∙ sym q)
 
 pub part-of-determined : (κs : Lfts 0) (a : Dens κs part-of-kinds.ps) → Determined (part-of-reads.Post κs a)
-part-of-determined κs a r₁ r₂ s₁ s₂ p q = injective-by part.said unsaidPart (λ r. refl) r₁ r₂ (p ∙ sym q)
+part-of-determined κs a r₁ r₂ s₁ s₂ p q = injective-by saidPart unsaidPart (λ r. refl) r₁ r₂ (p ∙ sym q)
 
 pub part-at-under-determined : (κs : Lfts 1) (a : Dens κs part-at-under-kinds.ps) → DeterminedPart now (part-at-under-reads.Post κs a)
 part-at-under-determined κs a r₁ r₂ s₁ s₂ p q = p ∙ sym q

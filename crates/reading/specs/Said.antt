@@ -4,7 +4,7 @@ use Rattle.bson.specs.Bytes as bytes
 use Rattle.bson.specs.Step as step
 use Rattle.bson.specs.Value as paper
 use Rattle.iter.specs.Said.{saidElement}
-use Rattle.part.specs.Said as part
+use Rattle.part.specs.Said.{saidPart}
 use Rattle.value.specs.Said.{saidValue}
 use Rattle.reading.specs.declared.Reading.{Reading}
 use Rattle.reading.specs.declared.Reading.the-variants.{Is, Refused}
@@ -23,7 +23,7 @@ saidLocated (located.Is e) = gives (saidElement e)
 saidLocated (located.Refused number place) = refuses number place
 
 abbrev pub saidParts : TwoParts → bytes.Part × bytes.Part
-saidParts p = (part.said (p .0), part.said (p .1))
+saidParts p = (saidPart (p .0), saidPart (p .1))
 
 abbrev pub saidWhich : Which → paper.Which
 saidWhich First = paper.first

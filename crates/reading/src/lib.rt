@@ -6,7 +6,7 @@ ghost use Rattle.bson.specs.Value.{valueOf, elementAtUnder, readAtUnder, readWi
 ghost use Rattle.bson.specs.Answer.{then};
 ghost use Rattle.cstr.specs.Said.{limitOf};
 ghost use Rattle.iter.specs.Said.{saidElement};
-ghost use Rattle.part.specs.Said as onPaper;
+ghost use Rattle.part.specs.Said.{saidPart};
 ghost use Rattle.value.specs.Said.{saidValue};
 ghost use Rattle.reading.specs.Said.{said, saidLocated, saidParts, saidWhich};
 use iter::Cursor;
@@ -152,7 +152,7 @@ pub fn parts_of(value: Value) -> TwoParts
 }
 
 pub fn part_of(value: Value, which: Which) -> Part
-    ensures { λ r. ⌜ onPaper.said r ≡ partOf (saidWhich which) (saidValue value) ⌝ }
+    ensures { λ r. ⌜ saidPart r ≡ partOf (saidWhich which) (saidValue value) ⌝ }
 {
     let parts = parts_of(value);
     match which {

@@ -1,1 +1,3 @@
 pub mod Ascii
+pub mod Moves
+pub mod Window

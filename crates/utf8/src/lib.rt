@@ -1,4 +1,7 @@
 // Whether bytes are UTF-8 (RFC 3629): blocks of ASCII are passed over, then a long rest is judged by window, a short one by table.
+mod table;
+mod window;
+
 ghost use Prim.Native.Nat.{_-_};
 ghost use mathlib.Core.Path.{_≡_};
 ghost use lib.ListN.{length, drop};
@@ -23,9 +26,9 @@ fn mixed(v: &[u8]) -> bool
     ensures { λ r. ⌜ r ≡ utf8 (now (v .entry)) ⌝ }
 {
     if v.len() < 64 {
-        return utf8_table::by_table(v);
+        return table::by_table(v);
     }
-    utf8_window::by_window(v)
+    window::by_window(v)
 }
 
 // Whether the last eight bytes are below 128, or all of fewer. Eight are tested at once, as what is left behind the blocks could not be.

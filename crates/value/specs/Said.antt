@@ -8,7 +8,7 @@ use Rattle.bson.specs.Bytes as paper
 use Rattle.bson.specs.Value.{Leaf, leaf, boolean, int32, int64, dateTime, double, timestamp, objectId, decimal128, string, code, symbol}
 use Rattle.bson.specs.Value.{null, undefined, minKey, maxKey, dbPointer, binary, regex, document, array, codeWithScope}
 use Rattle.bson.specs.Value as value
-use Rattle.part.specs.Said as part
+use Rattle.part.specs.Said.{saidPart}
 use Rattle.value.specs.declared.Value.{Value}
 use Rattle.value.specs.declared.Value.the-variants as is
 use Rattle.value.specs.declared.Parsed.{Parsed}
@@ -16,24 +16,24 @@ use Rattle.value.specs.declared.Parsed.the-variants.{Is, Refused}
 
 abbrev pub saidValue : Value → value.Value
 saidValue (is.Double bits) = leaf (double bits)
-saidValue (is.String p) = leaf (string (part.said p))
-saidValue (is.Document p) = document (part.said p)
-saidValue (is.Array p) = array (part.said p)
-saidValue (is.Binary subtype p) = leaf (binary subtype (part.said p))
+saidValue (is.String p) = leaf (string (saidPart p))
+saidValue (is.Document p) = document (saidPart p)
+saidValue (is.Array p) = array (saidPart p)
+saidValue (is.Binary subtype p) = leaf (binary subtype (saidPart p))
 saidValue is.Undefined = leaf undefined
-saidValue (is.ObjectId p) = leaf (objectId (part.said p))
+saidValue (is.ObjectId p) = leaf (objectId (saidPart p))
 saidValue (is.Boolean b) = leaf (boolean b)
 saidValue (is.DateTime n) = leaf (dateTime n)
 saidValue is.Null = leaf null
-saidValue (is.RegularExpression p o) = leaf (regex (part.said p) (part.said o))
-saidValue (is.DbPointer p i) = leaf (dbPointer (part.said p) (part.said i))
-saidValue (is.JavaScriptCode p) = leaf (code (part.said p))
-saidValue (is.Symbol p) = leaf (symbol (part.said p))
-saidValue (is.JavaScriptCodeWithScope p c) = codeWithScope (part.said c) (part.said p)
+saidValue (is.RegularExpression p o) = leaf (regex (saidPart p) (saidPart o))
+saidValue (is.DbPointer p i) = leaf (dbPointer (saidPart p) (saidPart i))
+saidValue (is.JavaScriptCode p) = leaf (code (saidPart p))
+saidValue (is.Symbol p) = leaf (symbol (saidPart p))
+saidValue (is.JavaScriptCodeWithScope p c) = codeWithScope (saidPart c) (saidPart p)
 saidValue (is.Int32 n) = leaf (int32 n)
 saidValue (is.Timestamp i n) = leaf (timestamp i n)
 saidValue (is.Int64 n) = leaf (int64 n)
-saidValue (is.Decimal128 p) = leaf (decimal128 (part.said p))
+saidValue (is.Decimal128 p) = leaf (decimal128 (saidPart p))
 saidValue is.MinKey = leaf minKey
 saidValue is.MaxKey = leaf maxKey
 

@@ -7,15 +7,14 @@ ghost use lib.Dec.{leb, eqb};
 ghost use lib.ListN.{length, drop};
 ghost use Rattle.bson.specs.Bytes.{le32, bytes};
 ghost use Rattle.bson.specs.Utf8.{utf8};
-ghost use Rattle.cstr.specs.Said.{said};
-ghost use Rattle.part.specs.Said as onPaper;
+ghost use Rattle.part.specs.Said.{saidLength, saidPart};
 ghost use Rattle.value.specs.Code.{codeSize, scopeAt};
-use cstr::Length;
 use num::Uint32;
+use part::Length;
 use part::Part;
 
 pub fn is_text(s: &[u8], part: Part) -> bool
-    ensures { λ r. ⌜ r ≡ utf8 (bytes (now (s .entry)) (onPaper.said part)) ⌝ }
+    ensures { λ r. ⌜ r ≡ utf8 (bytes (now (s .entry)) (saidPart part)) ⌝ }
 {
     utf8::is_utf8(part::bytes_of(s, part))
 }
@@ -35,7 +34,7 @@ pub fn is_old_binary(v: &[u8]) -> bool
 
 // The document behind the code, from a start on to the end of the value.
 fn scope(v: &[u8], start: usize) -> Length
-    ensures { λ r. ⌜ said r ≡ scopeAt (now (v .entry)) start ⌝ }
+    ensures { λ r. ⌜ saidLength r ≡ scopeAt (now (v .entry)) start ⌝ }
 {
     if v.len() <= start {
         return Length::Refused(12);
@@ -45,7 +44,7 @@ fn scope(v: &[u8], start: usize) -> Length
 
 // The code of a value of both, with its length field, before a scope that is admitted: 12, 8, 9, 10, 6, 12, 1, 2, 3, in this order.
 pub fn code_len(v: &[u8]) -> Length
-    ensures { λ r. ⌜ said r ≡ codeSize (now (v .entry)) ⌝ }
+    ensures { λ r. ⌜ saidLength r ≡ codeSize (now (v .entry)) ⌝ }
 {
     if v.len() < 14 {
         return Length::Refused(12);

@@ -9,16 +9,16 @@ ghost use Rattle.bson.specs.Bytes.{le64, i32, i64, trim as trimmed};
 ghost use Rattle.bson.specs.Tags.{typeOf, DbPointer};
 ghost use Rattle.bson.specs.Framing.{inFront, patternOptions};
 ghost use Rattle.bson.specs.Value as paper;
-ghost use Rattle.part.specs.Said as onPaper;
+ghost use Rattle.part.specs.Said.{saidPart};
 ghost use Rattle.value.specs.Said.{said, asLong, asText, asRegex};
-use cstr::Length;
-use framing::PatternOptions;
 use num::Boolean;
 use num::Double;
 use num::Int32;
 use num::Int64;
 use num::Timestamp;
+use part::Length;
 use part::Part;
+use raw::PatternOptions;
 
 // A value of each type: numbers as numbers, a double by its bits, bytes as parts of the slice.
 pub enum Value {
@@ -107,7 +107,7 @@ fn timestamp(v: &[u8]) -> Parsed
 // A part without its first and its last bytes, of which no more are taken than it has.
 fn trim(part: Part, front: usize, back: usize) -> Part
     requires { ⌜ (part .offset + front < 18446744073709551616) × (front + back < 18446744073709551616) ⌝ }
-    ensures { λ r. ⌜ onPaper.said r ≡ trimmed front back (onPaper.said part) ⌝ }
+    ensures { λ r. ⌜ saidPart r ≡ trimmed front back (saidPart part) ⌝ }
 {
     let offset = part.offset + front;
     let less = front + back;
@@ -121,7 +121,7 @@ fn trim(part: Part, front: usize, back: usize) -> Part
 // A string, code or symbol, by its tag: 6 where it is not UTF-8.
 fn text(s: &[u8], tag: u8, framed: Part) -> Parsed
     requires { ⌜ framed .offset + framed .size ≤ length (now s) ⌝ }
-    ensures { λ r. ⌜ said r ≡ paper.asLeaf (asText tag) (paper.text (now (s .entry)) (trimmed 4 1 (onPaper.said framed))) ⌝ }
+    ensures { λ r. ⌜ said r ≡ paper.asLeaf (asText tag) (paper.text (now (s .entry)) (trimmed 4 1 (saidPart framed))) ⌝ }
 {
     let text = trim(framed, 4, 1);
     if !inside::is_text(s, text) {
@@ -139,7 +139,7 @@ fn text(s: &[u8], tag: u8, framed: Part) -> Parsed
 // A namespace, which must be UTF-8 (6), and twelve bytes.
 fn db_pointer(s: &[u8], framed: Part) -> Parsed
     requires { ⌜ framed .offset + framed .size ≤ length (now s) ⌝ }
-    ensures { λ r. ⌜ said r ≡ paper.content (now (s .entry)) (onPaper.said framed) DbPointer ⌝ }
+    ensures { λ r. ⌜ said r ≡ paper.content (now (s .entry)) (saidPart framed) DbPointer ⌝ }
 {
     let namespace = trim(framed, 4, 13);
     if !inside::is_text(s, namespace) {
@@ -162,7 +162,7 @@ fn byte_at(v: &[u8], i: usize) -> u8
 // Binary data, behind its length and subtype; under subtype 2 behind a second length, else 12.
 fn binary(v: &[u8], framed: Part) -> Parsed
     requires { ⌜ framed .offset < 9223372036854775808 ⌝ }
-    ensures { λ r. ⌜ said r ≡ paper.binaryValue (now (v .entry)) (onPaper.said framed) ⌝ }
+    ensures { λ r. ⌜ said r ≡ paper.binaryValue (now (v .entry)) (saidPart framed) ⌝ }
 {
     let subtype = byte_at(v, 4);
     if subtype != 2 {
@@ -180,7 +180,7 @@ fn regular_expression(v: &[u8], offset: usize) -> Parsed
     requires { ⌜ offset + length (now v) < 9223372036854775808 ⌝ }
     ensures { λ r. ⌜ said r ≡ asRegex offset (patternOptions (now (v .entry))) ⌝ }
 {
-    match framing::pattern_options(v, cstr::NO_LIMIT) {
+    match raw::pattern_options(v, cstr::NO_LIMIT) {
         PatternOptions::Refused(number) => Parsed::Refused(number),
         PatternOptions::Is { pattern, options } => {
             let behind = offset + pattern + 1;
@@ -200,7 +200,7 @@ fn regular_expression(v: &[u8], offset: usize) -> Parsed
 // Code, then a scope that is admitted: 12, 8, 9, 10, 6, 12, 1, 2, 3, in this order.
 fn code_with_scope(v: &[u8], framed: Part) -> Parsed
     requires { ⌜ framed .offset + length (now v) < 9223372036854775808 ⌝ }
-    ensures { λ r. ⌜ said r ≡ paper.scopeValue (now (v .entry)) (onPaper.said framed) ⌝ }
+    ensures { λ r. ⌜ said r ≡ paper.scopeValue (now (v .entry)) (saidPart framed) ⌝ }
 {
     match inside::code_len(v) {
         Length::Refused(number) => Parsed::Refused(number),
@@ -219,7 +219,7 @@ fn code_with_scope(v: &[u8], framed: Part) -> Parsed
 // By the tag: 7 where it is in no row of the table, else the refusals of its type.
 fn content(s: &[u8], tag: u8, framed: Part) -> Parsed
     requires { ⌜ framed .offset + framed .size ≤ length (now s) ⌝ }
-    ensures { λ r. ⌜ said r ≡ then (typeOf tag) (paper.content (now (s .entry)) (onPaper.said framed)) ⌝ }
+    ensures { λ r. ⌜ said r ≡ then (typeOf tag) (paper.content (now (s .entry)) (saidPart framed)) ⌝ }
 {
     let v = part::bytes_of(s, framed);
     match tag {
@@ -250,7 +250,7 @@ fn content(s: &[u8], tag: u8, framed: Part) -> Parsed
 
 // The value of this tag in a part of the slice: 9 where the part runs past the slice, then 7 and the refusals of its type.
 pub fn parse(s: &[u8], tag: u8, framed: Part) -> Parsed
-    ensures { λ r. ⌜ said r ≡ paper.valueIn (now (s .entry)) tag (onPaper.said framed) ⌝ }
+    ensures { λ r. ⌜ said r ≡ paper.valueIn (now (s .entry)) tag (saidPart framed) ⌝ }
 {
     if s.len() < framed.size {
         return Parsed::Refused(9);

@@ -16,8 +16,8 @@ use crate::text::say;
 use crate::text::unhex;
 use crate::text::word_number;
 use crate::values::is_refusal;
-use cstr::Length;
 use document::Empty;
+use part::Length;
 use whole::Verdict;
 
 // `admission LENGTH`, or a refusal.

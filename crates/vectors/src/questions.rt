@@ -60,7 +60,7 @@ fn framed(first: &[u8], rest: &[u8]) -> Reading {
     if first.len() < 1 {
         return Reading::Nothing;
     }
-    length(framing::value_len(first[0], rest, cstr::NO_LIMIT))
+    length(raw::value_len(first[0], rest, cstr::NO_LIMIT))
 }
 
 // What the leaf answers that the line's word names.

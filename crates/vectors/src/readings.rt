@@ -1,12 +1,12 @@
 // What the leaves answer, in one form for all of them.
 use crate::text::wide;
-use cstr::Length;
 use num::Boolean;
 use num::Double;
 use num::Int32;
 use num::Int64;
 use num::Timestamp;
 use num::Uint32;
+use part::Length;
 
 // Nothing: there is no leaf for it.
 pub enum Reading {

@@ -3,7 +3,7 @@ ghost use Prim.Native.Nat.{ℕ, _+_};
 ghost use mathlib.Core.Path.{_≡_};
 ghost use Rattle.bson.specs.Bytes.{bytes};
 ghost use Rattle.bson.specs.Check.{keyPasses, visit as visitOf};
-ghost use Rattle.part.specs.Said as onPaper;
+ghost use Rattle.part.specs.Said.{saidPart};
 ghost use Rattle.iter.specs.Said.{saidElement};
 ghost use Rattle.bson.specs.Level.{opening};
 ghost use Rattle.value.specs.Said.{saidValue};
@@ -38,7 +38,7 @@ pub enum Visited {
 
 // The strict check asks for the keys of arrays, and for no others.
 fn key_passes(s: &[u8], strict: bool, level: Level, key: Part) -> bool
-    ensures { λ r. ⌜ ((position : ℕ) → r ≡ keyPasses strict (saidLevel level) position (bytes (now (s .entry)) (onPaper.said key))) ⌝ }
+    ensures { λ r. ⌜ ((position : ℕ) → r ≡ keyPasses strict (saidLevel level) position (bytes (now (s .entry)) (saidPart key))) ⌝ }
 {
     if strict & level.array {
         return array_key::is_good(part::bytes_of(s, key));

@@ -19,8 +19,8 @@ head-in-requires c κs =
     let i = c .before .before .before .before .before in
     (i .before .before .room-of .ensures, answered said (i .innermost .ensures) (c .before .before .before .kind .given .1))
 
-enum-known-n : tie.Need-enum-known-n
-enum-known-n c = c .match .keys2
+enum-known-number : tie.Need-enum-known-number
+enum-known-number c = c .match .keys2
 
 same-length : tie.Need-same-length
 same-length c = c .before .before .head-in .kept .0
@@ -32,7 +32,7 @@ returns-2 : tie.Need-returns-2
 unfolding heading headed
 returns-2 c =
     let i = c .before .before .before in
-    let e = answered said (i .innermost .ensures) (c .before .n .given .1) in
+    let e = answered said (i .innermost .ensures) (c .before .number .given .1) in
     rw (← i .before .before .room-of .ensures, e)
 
 pub head-spec : {M : Type 1} → statement M
@@ -43,7 +43,7 @@ head-spec =
     innermost-requires
     enum-known-kind
     head-in-requires
-    enum-known-n
+    enum-known-number
     same-length
     returns
     returns-2)

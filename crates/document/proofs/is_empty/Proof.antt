@@ -1,7 +1,7 @@
 -- `document::is_empty` meets its contract: what admission gives decides. Assumes nothing.
 use Rattle.bson.specs.Lookup.{isEmpty}
 use Rattle.laws.proofs.AnswerLaws.{answered}
-use Rattle.cstr.specs.Said as length
+use Rattle.part.specs.Said.{saidLength}
 use borrow.Author.Needs.{needs}
 use Rattle.document.proofs.is_empty.Statement.{statement}
 use Rattle.document.proofs.is_empty.Tie as tie
@@ -17,11 +17,11 @@ enum-known-n c = search needs
 
 returns : tie.Need-returns
 unfolding isEmpty
-returns c = rw (answered length.said (c .before .before .before .from-bytes .ensures) (c .before .number .given .1))
+returns c = rw (answered saidLength (c .before .before .before .from-bytes .ensures) (c .before .number .given .1))
 
 returns-2 : tie.Need-returns-2
 unfolding isEmpty
-returns-2 c = rw (answered length.said (c .before .before .before .from-bytes .ensures) (c .before .n .given .1))
+returns-2 c = rw (answered saidLength (c .before .before .before .from-bytes .ensures) (c .before .n .given .1))
 
 pub is-empty-spec : {M : Type 1} → statement M
 is-empty-spec =

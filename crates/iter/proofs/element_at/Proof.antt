@@ -10,7 +10,7 @@ use Rattle.bson.specs.Step.{elementUnder, yield, yieldingUnder}
 use Rattle.laws.proofs.Common.{rest-part}
 use Rattle.laws.proofs.CstringLaws.{cstring-inside}
 use Rattle.laws.proofs.AnswerLaws.{answered}
-use Rattle.cstr.specs.Said.{said}
+use Rattle.part.specs.Said.{saidLength}
 use Rattle.iter.specs.Said.{sized}
 use borrow.Author.Needs.{needs}
 use native.Mathlib.Omega.{arith}
@@ -50,8 +50,8 @@ part-read-cstring-with-max-len-end c = search needs
 read-cstring-with-max-len-requires : tie.Need-read-cstring-with-max-len-requires
 read-cstring-with-max-len-requires c κs = tt
 
-enum-known-why : tie.Need-enum-known-why
-enum-known-why c = c .match .keys1
+enum-known-number : tie.Need-enum-known-number
+enum-known-number c = c .match .keys1
 
 enum-known-key : tie.Need-enum-known-key
 enum-known-key c = c .match .keys2
@@ -63,25 +63,25 @@ add-offset : tie.Need-add-offset
 add-offset c =
     let b = c .before .before in
     let a = b .before .before .before .before .before .args in
-    omega (arith, key-below _ (a .s .now) (a .place) _ (answered said (b .before .before .read-cstring-with-max-len .ensures) (b .key .given .1)))
+    omega (arith, key-below _ (a .s .now) (a .place) _ (answered saidLength (b .before .before .read-cstring-with-max-len .ensures) (b .key .given .1)))
 
 add-offset-2 : tie.Need-add-offset-2
 add-offset-2 c =
     let b = c .before .before in
     let a = b .before .before .before .before .before .args in
-    omega (arith, key-below _ (a .s .now) (a .place) _ (answered said (b .before .before .read-cstring-with-max-len .ensures) (b .key .given .1)))
+    omega (arith, key-below _ (a .s .now) (a .place) _ (answered saidLength (b .before .before .read-cstring-with-max-len .ensures) (b .key .given .1)))
 
 sub-value-len : tie.Need-sub-value-len
 sub-value-len c =
     let b = c .before .before in
     let a = b .before .before .before .before .before .args in
-    omega (arith, key-below _ (a .s .now) (a .place) _ (answered said (b .before .before .read-cstring-with-max-len .ensures) (b .key .given .1)))
+    omega (arith, key-below _ (a .s .now) (a .place) _ (answered saidLength (b .before .before .read-cstring-with-max-len .ensures) (b .key .given .1)))
 
 part-value-len-start : tie.Need-part-value-len-start
 part-value-len-start c =
     let b = c .before .before in
     let a = b .before .before .before .before .before .args in
-    omega (arith, key-below _ (a .s .now) (a .place) _ (answered said (b .before .before .read-cstring-with-max-len .ensures) (b .key .given .1)))
+    omega (arith, key-below _ (a .s .now) (a .place) _ (answered saidLength (b .before .before .read-cstring-with-max-len .ensures) (b .key .given .1)))
 
 part-value-len-end : tie.Need-part-value-len-end
 part-value-len-end c = search needs
@@ -89,26 +89,26 @@ part-value-len-end c = search needs
 value-len-requires : tie.Need-value-len-requires
 value-len-requires c κs = tt
 
-enum-known-number : tie.Need-enum-known-number
-enum-known-number c = c .match2 .keys1
+enum-known-number-2 : tie.Need-enum-known-number-2
+enum-known-number-2 c = c .match2 .keys1
 
 enum-known-value : tie.Need-enum-known-value
 enum-known-value c = c .match2 .keys2
 
 returns : tie.Need-returns
-returns c = key-refuses _ _ _ _ _ (answered said (c .before .before .before .read-cstring-with-max-len .ensures) (c .before .why .given .1))
+returns c = key-refuses _ _ _ _ _ (answered saidLength (c .before .before .before .read-cstring-with-max-len .ensures) (c .before .number .given .1))
 
 returns-2 : tie.Need-returns-2
 returns-2 c =
     let b = c .before .before .before .before .before .before .before in
-    valued _ _ _ _ (answered said (b .before .before .read-cstring-with-max-len .ensures) (b .key .given .1))
-    _ (answered said (c .before .before .before .value-len .ensures) (c .before .number .given .1))
+    valued _ _ _ _ (answered saidLength (b .before .before .read-cstring-with-max-len .ensures) (b .key .given .1))
+    _ (answered saidLength (c .before .before .before .value-len .ensures) (c .before .number2 .given .1))
 
 returns-3 : tie.Need-returns-3
 returns-3 c =
     let b = c .before .before .before .before .before .before .before in
-    valued _ _ _ _ (answered said (b .before .before .read-cstring-with-max-len .ensures) (b .key .given .1))
-    _ (answered said (c .before .before .before .value-len .ensures) (c .before .value .given .1))
+    valued _ _ _ _ (answered saidLength (b .before .before .read-cstring-with-max-len .ensures) (b .key .given .1))
+    _ (answered saidLength (c .before .before .before .value-len .ensures) (c .before .value .given .1))
 
 pub element-at-spec : {M : Type 1} → statement M
 element-at-spec =
@@ -119,7 +119,7 @@ element-at-spec =
     part-read-cstring-with-max-len-start
     part-read-cstring-with-max-len-end
     read-cstring-with-max-len-requires
-    enum-known-why
+    enum-known-number
     enum-known-key
     shared-slice-read-tag
     add-offset
@@ -128,7 +128,7 @@ element-at-spec =
     part-value-len-start
     part-value-len-end
     value-len-requires
-    enum-known-number
+    enum-known-number-2
     enum-known-value
     returns
     returns-2

@@ -11,7 +11,7 @@ use Rattle.bson.specs.Cstring.{Limit}
 use Rattle.laws.proofs.AnswerLaws.{answered}
 use Rattle.laws.proofs.StepLaws.{admitted-says}
 use Rattle.laws.proofs.AdvanceLaws.{step-unadmitted, step-outside, step-ends, step-inside}
-use Rattle.cstr.specs.Said.{said}
+use Rattle.part.specs.Said.{saidLength}
 use native.Mathlib.Omega.{arith}
 use Rattle.iter.proofs.sizes_at.Statement.{statement}
 use Rattle.iter.proofs.sizes_at.Tie as tie
@@ -54,36 +54,36 @@ enum-known-n c = c .match .keys2
 sub-terminator : tie.Need-sub-terminator
 sub-terminator c =
     let b = c .before in
-    omega (arith, admitted-says _ _ (answered said (b .before .before .admit .ensures) (b .n .given .1)))
+    omega (arith, admitted-says _ _ (answered saidLength (b .before .before .admit .ensures) (b .n .given .1)))
 
 element-at-requires : tie.Need-element-at-requires
 element-at-requires c κs =
     let b = c .before .before .before in
-    below _ _ _ (answered said (b .before .before .admit .ensures) (b .n .given .1)) (c .before .if1 .taken)
+    below _ _ _ (answered saidLength (b .before .before .admit .ensures) (b .n .given .1)) (c .before .if1 .taken)
 
 returns : tie.Need-returns
 returns c =
     let b = c .before .before .before .before in
-    let a = answered said (b .before .before .admit .ensures) (b .n .given .1) in
+    let a = answered saidLength (b .before .before .admit .ensures) (b .n .given .1) in
     c .element-at .ensures ∙ sym (inside _ _ _ a _ (c .before .before .if1 .taken) (c .before .if2 .taken))
 
 returns-2 : tie.Need-returns-2
 returns-2 c =
     let b = c .before .before .before in
-    sym (before _ _ _ (answered said (b .before .before .admit .ensures) (b .n .given .1)) _ (c .if2 .left))
+    sym (before _ _ _ (answered saidLength (b .before .before .admit .ensures) (b .n .given .1)) _ (c .if2 .left))
 
 returns-3 : tie.Need-returns-3
 returns-3 c =
     let b = c .before .before .before in
-    sym (ends _ _ _ (answered said (b .before .before .admit .ensures) (b .n .given .1)) _ (c .if3 .taken))
+    sym (ends _ _ _ (answered saidLength (b .before .before .admit .ensures) (b .n .given .1)) _ (c .if3 .taken))
 
 returns-4 : tie.Need-returns-4
-returns-4 c = sym (step-unadmitted _ _ _ _ _ (answered said (c .before .before .before .admit .ensures) (c .before .number .given .1)))
+returns-4 c = sym (step-unadmitted _ _ _ _ _ (answered saidLength (c .before .before .before .admit .ensures) (c .before .number .given .1)))
 
 returns-5 : tie.Need-returns-5
 returns-5 c =
     let b = c .before .before .before in
-    sym (behind _ _ _ (answered said (b .before .before .admit .ensures) (b .n .given .1)) _ (c .before .if1 .left) (c .if3 .left))
+    sym (behind _ _ _ (answered saidLength (b .before .before .admit .ensures) (b .n .given .1)) _ (c .before .if1 .left) (c .if3 .left))
 
 pub sizes-at-spec : {M : Type 1} → statement M
 sizes-at-spec =

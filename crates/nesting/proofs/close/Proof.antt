@@ -42,8 +42,8 @@ pop-requires c κs =
     (c .before .before .before .before .before .before .before .before .before .enum-told .given .1)) in
     (closable _ o _ (i .before .before .room-of .ensures) _ e .0, ends-within _ o _ (i .before .before .room-of .ensures) _ e .2)
 
-enum-known-n : tie.Need-enum-known-n
-enum-known-n c = c .match .keys2
+enum-known-number : tie.Need-enum-known-number
+enum-known-number c = c .match .keys2
 
 same-length : tie.Need-same-length
 same-length c = c .before .before .before .before .seal .kept .0
@@ -60,7 +60,7 @@ returns c =
 returns-2 : tie.Need-returns-2
 returns-2 c =
     let i = c .before .before .before in
-    close-refused _ _ _ (i .before .before .room-of .ensures) _ (answered said (i .innermost .ensures) (c .before .n .given .1))
+    close-refused _ _ _ (i .before .before .room-of .ensures) _ (answered said (i .innermost .ensures) (c .before .number .given .1))
 
 pub close-spec : {M : Type 1} → statement M
 close-spec =
@@ -73,7 +73,7 @@ close-spec =
     start-of-requires
     seal-requires
     pop-requires
-    enum-known-n
+    enum-known-number
     same-length
     returns
     returns-2)

@@ -1,6 +1,6 @@
 -- `raw::read_len` meets its contract: what the length field gives decides. Assumes nothing.
 use Rattle.bson.specs.Framing.{stringSize}
-use Rattle.cstr.specs.Said.{said}
+use Rattle.part.specs.Said.{saidLength}
 use Rattle.laws.proofs.FramingLaws.{length-field-is}
 use Rattle.laws.proofs.AnswerLaws.{answered}
 use borrow.Author.Needs.{needs}
@@ -11,32 +11,32 @@ use Rattle.raw.proofs.read_len.Tie as tie
 length-field-requires : tie.Need-length-field-requires
 length-field-requires c κs = search needs
 
-enum-known-why : tie.Need-enum-known-why
-enum-known-why c = search needs
+enum-known-number : tie.Need-enum-known-number
+enum-known-number c = search needs
 
 enum-known-n : tie.Need-enum-known-n
 enum-known-n c = search needs
 
 add-zero-ended-len : tie.Need-add-zero-ended-len
-add-zero-ended-len c = omega (arith, length-field-is _ _ _ _ (answered said (c .before .before .before .length-field .ensures) (c .before .n .given .1)))
+add-zero-ended-len c = omega (arith, length-field-is _ _ _ _ (answered saidLength (c .before .before .before .length-field .ensures) (c .before .n .given .1)))
 
 zero-ended-len-requires : tie.Need-zero-ended-len-requires
 zero-ended-len-requires c κs = search needs
 
 returns : tie.Need-returns
 unfolding stringSize
-returns c = rw (answered said (c .before .before .before .length-field .ensures) (c .before .why .given .1))
+returns c = rw (answered saidLength (c .before .before .before .length-field .ensures) (c .before .number .given .1))
 
 returns-2 : tie.Need-returns-2
 unfolding stringSize
-returns-2 c = rw (answered said (c .before .before .before .before .length-field .ensures) (c .before .before .n .given .1)) (c .zero-ended-len .ensures)
+returns-2 c = rw (answered saidLength (c .before .before .before .before .length-field .ensures) (c .before .before .n .given .1)) (c .zero-ended-len .ensures)
 
 pub read-len-spec : {M : Type 1} → statement M
 read-len-spec =
     tie.close
     (tie.spec
     length-field-requires
-    enum-known-why
+    enum-known-number
     enum-known-n
     add-zero-ended-len
     zero-ended-len-requires

@@ -1,6 +1,6 @@
 -- `raw::scope_len` meets its contract: what the length field gives decides. Assumes nothing.
 use Rattle.bson.specs.Framing.{scopeSize}
-use Rattle.cstr.specs.Said.{said}
+use Rattle.part.specs.Said.{saidLength}
 use Rattle.laws.proofs.AnswerLaws.{answered}
 use borrow.Author.Needs.{needs}
 use Rattle.raw.proofs.scope_len.Statement.{statement}
@@ -9,8 +9,8 @@ use Rattle.raw.proofs.scope_len.Tie as tie
 length-field-requires : tie.Need-length-field-requires
 length-field-requires c κs = search needs
 
-enum-known-why : tie.Need-enum-known-why
-enum-known-why c = search needs
+enum-known-number : tie.Need-enum-known-number
+enum-known-number c = search needs
 
 enum-known-n : tie.Need-enum-known-n
 enum-known-n c = search needs
@@ -20,18 +20,18 @@ fixed-len-requires c κs = search needs
 
 returns : tie.Need-returns
 unfolding scopeSize
-returns c = rw (answered said (c .before .before .before .length-field .ensures) (c .before .why .given .1))
+returns c = rw (answered saidLength (c .before .before .before .length-field .ensures) (c .before .number .given .1))
 
 returns-2 : tie.Need-returns-2
 unfolding scopeSize
-returns-2 c = rw (answered said (c .before .before .before .before .length-field .ensures) (c .before .before .n .given .1)) (c .fixed-len .ensures)
+returns-2 c = rw (answered saidLength (c .before .before .before .before .length-field .ensures) (c .before .before .n .given .1)) (c .fixed-len .ensures)
 
 pub scope-len-spec : {M : Type 1} → statement M
 scope-len-spec =
     tie.close
     (tie.spec
     length-field-requires
-    enum-known-why
+    enum-known-number
     enum-known-n
     fixed-len-requires
     returns

@@ -2,7 +2,7 @@
 use borrow.Author.Tests.{eq-eqb, ne-eqb}
 use Rattle.bson.specs.Framing.{zeroEnded}
 use Rattle.laws.proofs.FramingLaws.{fits-is}
-use Rattle.cstr.specs.Said.{said}
+use Rattle.part.specs.Said.{saidLength}
 use Rattle.laws.proofs.AnswerLaws.{answered}
 use borrow.Author.Needs.{needs}
 use native.Mathlib.Omega.{arith}
@@ -12,42 +12,42 @@ use Rattle.raw.proofs.zero_ended_len.Tie as tie
 fixed-len-requires : tie.Need-fixed-len-requires
 fixed-len-requires c κs = search needs
 
-enum-known-why : tie.Need-enum-known-why
-enum-known-why c = search needs
+enum-known-number : tie.Need-enum-known-number
+enum-known-number c = search needs
 
 enum-known-n : tie.Need-enum-known-n
 enum-known-n c = search needs
 
 sub-if1 : tie.Need-sub-if1
-sub-if1 c = omega (arith, fits-is _ _ _ (answered said (c .before .before .before .fixed-len .ensures) (c .before .n .given .1)))
+sub-if1 c = omega (arith, fits-is _ _ _ (answered saidLength (c .before .before .before .fixed-len .ensures) (c .before .n .given .1)))
 
 shared-slice-read-if1 : tie.Need-shared-slice-read-if1
 shared-slice-read-if1 c =
     let d = c .before .before in
-    omega (arith, fits-is _ _ _ (answered said (d .before .before .fixed-len .ensures) (d .n .given .1)))
+    omega (arith, fits-is _ _ _ (answered saidLength (d .before .before .fixed-len .ensures) (d .n .given .1)))
 
 returns : tie.Need-returns
 unfolding zeroEnded
-returns c = rw (answered said (c .before .before .before .fixed-len .ensures) (c .before .why .given .1))
+returns c = rw (answered saidLength (c .before .before .before .fixed-len .ensures) (c .before .number .given .1))
 
 returns-2 : tie.Need-returns-2
 unfolding zeroEnded
 returns-2 c =
     let d = c .before .before .before in
-    rw (answered said (d .before .before .fixed-len .ensures) (d .n .given .1), eq-eqb _ _ (c .if1 .taken))
+    rw (answered saidLength (d .before .before .fixed-len .ensures) (d .n .given .1), eq-eqb _ _ (c .if1 .taken))
 
 returns-3 : tie.Need-returns-3
 unfolding zeroEnded
 returns-3 c =
     let d = c .before .before .before in
-    rw (answered said (d .before .before .fixed-len .ensures) (d .n .given .1), ne-eqb _ _ (c .if1 .left))
+    rw (answered saidLength (d .before .before .fixed-len .ensures) (d .n .given .1), ne-eqb _ _ (c .if1 .left))
 
 pub zero-ended-len-spec : {M : Type 1} → statement M
 zero-ended-len-spec =
     tie.close
     (tie.spec
     fixed-len-requires
-    enum-known-why
+    enum-known-number
     enum-known-n
     sub-if1
     shared-slice-read-if1

@@ -6,7 +6,7 @@ use borrow.Author.Needs.{needs}
 use Rattle.bson.specs.Tags.{tags, rowOf}
 use Rattle.bson.specs.Value as paper
 use Rattle.laws.proofs.BytesLaws.{bytes-length}
-use Rattle.part.specs.Said.{said}
+use Rattle.part.specs.Said.{saidPart}
 use Rattle.value.proofs.Unlisted.{unlisted}
 use Rattle.value.proofs.content.Statement.{statement}
 use Rattle.value.proofs.content.Tie as tie
@@ -32,7 +32,7 @@ int64-requires c κs = search needs
 regular-expression-requires : tie.Need-regular-expression-requires
 regular-expression-requires c κs =
     let a = c .before .before .before .args in
-    omega (arith, ap length (c .before .bytes-of .ensures), bytes-length (a .s .now) (said (a .framed)) (omega arith))
+    omega (arith, ap length (c .before .bytes-of .ensures), bytes-length (a .s .now) (saidPart (a .framed)) (omega arith))
 
 db-pointer-requires : tie.Need-db-pointer-requires
 db-pointer-requires c κs = search needs
@@ -46,7 +46,7 @@ text-requires-3 c κs = search needs
 code-with-scope-requires : tie.Need-code-with-scope-requires
 code-with-scope-requires c κs =
     let a = c .before .before .before .args in
-    omega (arith, ap length (c .before .bytes-of .ensures), bytes-length (a .s .now) (said (a .framed)) (omega arith))
+    omega (arith, ap length (c .before .bytes-of .ensures), bytes-length (a .s .now) (saidPart (a .framed)) (omega arith))
 
 int32-requires : tie.Need-int32-requires
 int32-requires c κs = search needs

@@ -4,7 +4,7 @@ use native.Mathlib.Omega.{arith}
 use borrow.Author.Needs.{needs}
 use Rattle.laws.proofs.AnswerLaws.{answered}
 use Rattle.laws.proofs.FramingLaws.{pattern-options-fit}
-use Rattle.framing.specs.Said.{saidPatternOptions}
+use Rattle.raw.specs.Said.{saidPatternOptions}
 use Rattle.value.proofs.regular_expression.Statement.{statement}
 use Rattle.value.proofs.regular_expression.Tie as tie
 

@@ -12,7 +12,7 @@ use Rattle.bson.specs.Check.{visit}
 use Rattle.cstr.specs.Said.{limitOf}
 use Rattle.iter.specs.Said as step
 use Rattle.iter.specs.Said.{saidElement}
-use Rattle.part.specs.Said as part
+use Rattle.part.specs.Said.{saidPart}
 use Rattle.laws.proofs.AnswerLaws.{answered}
 use Rattle.laws.proofs.Common.{rest-part}
 use Rattle.laws.proofs.BytesLaws.{slice-part}
@@ -94,7 +94,7 @@ open-value-enum-known-opening-2 t c = search needs
 open-value-visits : (t : ℕ) (c : open-value-lts.After-opening2 (open-calls t) (open-at t) open-value.Post) (position : ℕ)
     → let a = c .before .before .before .before .before .before .before .args in
     let o = c .opening2 .given .0 in
-    visit (a .strict) (a .s .now) (saidLevel (a .level)) position (saidElement (a .element)) ≡ gives (opens (o .0) (o .1 .0) (part.said (o .1 .1 .0)))
+    visit (a .strict) (a .s .now) (saidLevel (a .level)) position (saidElement (a .element)) ≡ gives (opens (o .0) (o .1 .0) (saidPart (o .1 .1 .0)))
 open-value-visits t c position =
     visited-is _ _ _ _ (c .before .before .before .before .before .visit-framed .ensures position)
     (c .before .before .before .opening .given .1 ∙ ap Is (c .opening2 .given .1))
@@ -102,7 +102,7 @@ open-value-visits t c position =
 open-value-enters : (t : ℕ) (c : open-value-lts.After-opening2 (open-calls t) (open-at t) open-value.Post)
     → let a = c .before .before .before .before .before .before .before .args in
     let o = c .opening2 .given .0 in
-    Enters (a .s .now) (saidLevel (a .level)) (cursor (a .element .place) false) (o .1 .0) (part.said (o .1 .1 .0))
+    Enters (a .s .now) (saidLevel (a .level)) (cursor (a .element .place) false) (o .1 .0) (saidPart (o .1 .1 .0))
 open-value-enters t c = enters _ _ _ 0 _ _ (c .before .before .before .before .before .before .before .pre .1 .1) _ _ _ (open-value-visits t c 0)
 
 open-value-add-base : (t : ℕ) → open-value-lts.Need-add-base (open-calls t) (open-at t) open-value.Post

@@ -6,7 +6,7 @@ use borrow.Author.Needs.{needs}
 use Rattle.bson.specs.Framing.{stringSize}
 use Rattle.laws.proofs.AnswerLaws.{answered, rest-answered}
 use Rattle.laws.proofs.FramingLaws.{string-is}
-use Rattle.cstr.specs.Said.{said}
+use Rattle.part.specs.Said.{saidLength}
 use Rattle.value.specs.Code.{codeSize}
 use Rattle.value.proofs.inside.code_len.Statement.{statement}
 use Rattle.value.proofs.inside.code_len.Tie as tie
@@ -34,7 +34,7 @@ enum-known-n : tie.Need-enum-known-n
 enum-known-n c = search needs
 
 sub-size : tie.Need-sub-size
-sub-size c = omega (arith, string-is _ _ (answered said (c .before .before .before .read-len .ensures) (c .before .n .given .1)))
+sub-size c = omega (arith, string-is _ _ (answered saidLength (c .before .before .before .read-len .ensures) (c .before .n .given .1)))
 
 is-text-requires : tie.Need-is-text-requires
 is-text-requires c κs = search needs
@@ -46,14 +46,14 @@ returns-2 c =
     let v = d .before .before .before .before .before .before .args .v .now in
     rw (
       le-leb _ _ (d .before .before .before .before .if1 .left),
-      rest-answered said stringSize v 4 (d .before .before .read-len .ensures) (d .n .given .1),
+      rest-answered saidLength stringSize v 4 (d .before .before .read-len .ensures) (d .n .given .1),
       sym (c .before .is-text .ensures) ∙ not-true _ (c .if2 .taken),
     )
 
 add-scope : tie.Need-add-scope
 add-scope c =
     let d = c .before .before .before in
-    omega (arith, string-is _ _ (answered said (d .before .before .read-len .ensures) (d .n .given .1)))
+    omega (arith, string-is _ _ (answered saidLength (d .before .before .read-len .ensures) (d .n .given .1)))
 
 scope-requires : tie.Need-scope-requires
 scope-requires c κs = search needs
@@ -71,7 +71,7 @@ returns-3 c =
     let v = d .before .before .before .before .args .v .now in
     rw (
       le-leb _ _ (d .before .before .if1 .left),
-      rest-answered said stringSize v 4 (d .read-len .ensures) (c .before .number .given .1),
+      rest-answered saidLength stringSize v 4 (d .read-len .ensures) (c .before .number .given .1),
     )
 
 returns-4 : tie.Need-returns-4
@@ -82,9 +82,9 @@ returns-4 c =
     let v = d .before .before .before .before .before .before .args .v .now in
     rw (
       le-leb _ _ (d .before .before .before .before .if1 .left),
-      rest-answered said stringSize v 4 (d .before .before .read-len .ensures) (d .n .given .1),
+      rest-answered saidLength stringSize v 4 (d .before .before .read-len .ensures) (d .n .given .1),
       sym (t .before .before .is-text .ensures) ∙ not-false _ (t .before .if2 .left),
-      answered said (t .scope .ensures) (c .before .number2 .given .1),
+      answered saidLength (t .scope .ensures) (c .before .number2 .given .1),
     )
 
 returns-5 : tie.Need-returns-5
@@ -95,9 +95,9 @@ returns-5 c =
     let v = d .before .before .before .before .before .before .args .v .now in
     rw (
       le-leb _ _ (d .before .before .before .before .if1 .left),
-      rest-answered said stringSize v 4 (d .before .before .read-len .ensures) (d .n .given .1),
+      rest-answered saidLength stringSize v 4 (d .before .before .read-len .ensures) (d .n .given .1),
       sym (t .before .before .is-text .ensures) ∙ not-false _ (t .before .if2 .left),
-      answered said (t .scope .ensures) (c .enum-told .given .1),
+      answered saidLength (t .scope .ensures) (c .enum-told .given .1),
     )
 
 pub code-len-spec : {M : Type 1} → statement M

@@ -1,2 +1,0 @@
-pub mod Determined
-pub mod TableLaws
