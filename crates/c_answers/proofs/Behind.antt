@@ -10,8 +10,8 @@ use Rattle.bson.specs.Cstring.{Limit}
 use Rattle.bson.specs.Step.{admitted, cursor, Step, yield, end, stepUnder, after}
 use Rattle.laws.proofs.AdvanceLaws.{ended-at, refused-place, step-unadmitted}
 use Rattle.laws.proofs.AnswerLaws.{oneOf, refused-in}
-use Rattle.theorems.proofs.Refusals.{NoZero, no-zero-under, steps, step-in, admissions, admitted-in}
-use Rattle.theorems.proofs.Told.{step-lies}
+use Rattle.laws.proofs.ReadRefusals.{NoZero, no-zero-under, steps, step-in, admissions, admitted-in}
+use Rattle.laws.proofs.StepLaws.{step-yields}
 use Rattle.c_answers.specs.Numbers.{stepped}
 use Rattle.c_answers.specs.Behind.{StepSays}
 use Rattle.c_answers.specs.declared.StepNumbers.{StepNumbers}
@@ -33,9 +33,9 @@ module _ (limit : Limit) (s : List ℕ) (offset : ℕ) where
 
   says : (x : Answer Step) → NoZero x → answer ≡ x → StepSays s offset (stepped x (after (cursor offset false) x))
   says (gives (yield e)) z q =
-      let l = step-lies limit s (cursor offset false) e q in
+      let y = step-yields limit s (cursor offset false) e q in
       record {
-        yields = λ n d. record { place = l .tag; key = omega (arith, l .tag, l .key); value = l .value; next = refl };
+        yields = λ n d. record { place = y .placed; key = omega (arith, y .placed, y .key-at); value = y .value-at; next = refl };
         ends = λ n d. absurd (omega (arith, d));
         refused = λ i. absurd (omega (arith, i));
       }

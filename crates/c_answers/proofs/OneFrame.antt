@@ -13,7 +13,7 @@ use Rattle.bson.specs.Check.{check}
 use Rattle.bson.specs.Grammar.{Elements}
 use Rattle.theorems.specs.OneMeaning.{Frame}
 use Rattle.theorems.proofs.OneMeaning.{one-meaning}
-use Rattle.theorems.proofs.Refusals.{NoZero, no-zero, check-in}
+use Rattle.laws.proofs.ReadRefusals.{NoZero, no-zero, check-in}
 use Rattle.c_answers.specs.Numbers.{verdict}
 use Rattle.c_answers.specs.declared.VerdictNumbers.{VerdictNumbers}
 

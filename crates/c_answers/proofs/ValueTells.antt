@@ -23,7 +23,7 @@ use Rattle.laws.proofs.GrammarLaws.{signed-unsigned}
 use Rattle.laws.proofs.GrammarBack.{bytes-are, le32-below, i32-ranged, i64-ranged}
 use Rattle.laws.proofs.ReadLaws.{read-says}
 use Rattle.laws.proofs.OpenLaws.{scope-says}
-use Rattle.theorems.proofs.Refusals.{NoZero, no-zero-under, reads, read-in}
+use Rattle.laws.proofs.ReadRefusals.{NoZero, no-zero-under, reads, read-in}
 use Rattle.c_answers.specs.Numbers.{tagOf, bitsOf, valueRead}
 use Rattle.c_answers.specs.declared.ValueNumbers.{ValueNumbers}
 use Rattle.c_answers.proofs.Tells.{tells, answerOf, answer-refused}

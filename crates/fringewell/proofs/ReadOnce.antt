@@ -13,7 +13,7 @@ use Rattle.bson.specs.Value.{valueOf, readAtUnder}
 use Rattle.laws.proofs.ReadLaws.{read-step}
 use Rattle.laws.proofs.LookupLaws.{get-read, get-with-says}
 use Rattle.laws.proofs.StepLaws.{step-yields}
-use Rattle.theorems.proofs.Refusals.{reads, typedReads, NoZero, no-zero-under, get-in, get-with-in}
+use Rattle.laws.proofs.ReadRefusals.{reads, typedReads, NoZero, no-zero-under, get-in, get-with-in}
 use Rattle.c_answers.specs.Numbers.{found, stepped, valueRead}
 use Rattle.c_answers.specs.declared.FoundNumbers.{FoundNumbers}
 use Rattle.c_answers.specs.declared.StepNumbers.{StepNumbers}

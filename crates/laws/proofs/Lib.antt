@@ -21,5 +21,6 @@ pub mod GrammarBack
 pub mod TreeLaws
 pub mod WriterWords
 pub mod WriterLaws
+pub mod ReadRefusals
 pub mod WriterRefusals
 pub mod JoinLaws

@@ -6,6 +6,7 @@ use lib.Dec.{eqb}
 use borrow.Author.Tests.{eqb-true}
 use Rattle.bson.specs.Answer.{gives}
 use Rattle.bson.specs.Tags
+use Rattle.bson.specs.Framing.{framed, valueSize, valueSizeUnder}
 use Rattle.laws.proofs.AnswerLaws.{never, gives-injective, then-gives, then-from}
 use Rattle.laws.proofs.Common.{split}
 use Tags.{ElementType, Boolean, Int32, Double, Int64, DateTime, Timestamp, ObjectId, Decimal128, Null, Undefined, MinKey, MaxKey}
@@ -84,6 +85,10 @@ type-sized tag t e =
     let i : r .type ≡ t = gives-injective h in
     let f : r .sized ≡ sizeFor t = found-of SizedRight tags tag r rows-sized q ∙ ap sizeFor i in
     then-from (rowOf tag) _ q ∙ ap gives f
+
+pub sized-by : (tag : ℕ) (t : ElementType) (v : List ℕ) → typeOf tag ≡ gives t → valueSize tag v ≡ framed (sizeFor t) v
+unfolding valueSizeUnder
+sized-by tag t v e = then-from _ _ (type-sized tag t e)
 
 -- the row found has the tag looked for
 found-tag : (rs : List Row) (tag : ℕ) (r : Row) → find rs tag ≡ gives r → r .tag ≡ tag

@@ -14,13 +14,13 @@ use Rattle.bson.specs.Bytes.{le32, le64, i32, i64, Part, part, bytes, trim}
 use Rattle.bson.specs.Utf8.{utf8}
 use Rattle.bson.specs.Cstring.{validCstr}
 use Rattle.bson.specs.Tags
-use Rattle.bson.specs.Framing.{fits, inFront, framed, valueSize, framedUnder, valueSizeUnder}
+use Rattle.bson.specs.Framing.{fits, inFront, framed, valueSize, framedUnder}
 use Rattle.bson.specs.Value
 use Rattle.bson.specs.Grammar.{bytes32, stringBytes, binaryBytes, Item, row, Fitting}
 use Rattle.bson.specs.Meaning.{held, Holding, single, holding}
 use Rattle.laws.proofs.AnswerLaws.{then-from}
 use Rattle.laws.proofs.Common.{split, both-hold}
-use Rattle.laws.proofs.TagLaws.{sizeFor, type-sized}
+use Rattle.laws.proofs.TagLaws.{sizeFor, sized-by}
 use Rattle.laws.proofs.GrammarLaws.{length-bytes32, length-bytes64, le32-bytes, le64-bytes, i32-bytes, i64-bytes, length-string}
 use Rattle.laws.proofs.GrammarLaws.{pattern-options-of, fits-of, in-front-of, string-of, pointer-of, binary-of, regex-of}
 use Tags.{ElementType, Boolean, Int32, Double, Int64, DateTime, Timestamp, ObjectId, Decimal128, Null, Undefined, MinKey, MaxKey}
@@ -38,12 +38,7 @@ module _ (s : List ℕ) (offset : ℕ) (a back : List ℕ) (here : drop offset s
   pub drop-behind : (next : ℕ) → next ≡ offset + length a → drop next s ≡ back
   drop-behind next e = rw e (sym (drop-drop (length a) offset s) ∙ ap (drop (length a)) here ∙ drop-append-seam a back)
 
--- a tag's type says how its values are framed and read
-
-pub sized-by : (tag : ℕ) (t : ElementType) (v : List ℕ) → typeOf tag ≡ gives t → valueSize tag v ≡ framed (sizeFor t) v
-unfolding valueSizeUnder
-sized-by tag t v e = then-from _ _ (type-sized tag t e)
-
+-- a tag's type says how its values are read
 value-by : (s : List ℕ) (tag : ℕ) (t : ElementType) (p : Part) → typeOf tag ≡ gives t → p .offset + p .size ≤ length s
     → valueIn s tag p ≡ content s p t
 unfolding valueIn

@@ -24,7 +24,6 @@ pub mod Trace
 pub mod Taken
 pub mod ReadBack
 pub mod Builds
-pub mod Refusals
 pub mod Told
 pub mod Refused
 pub mod Accounted

@@ -23,13 +23,13 @@ use Rattle.bson.specs.Level.{Opening, closed, opens, Level, outermost}
 use Rattle.bson.specs.Check.{Walk, keyPasses, visit, inside, opened, along, walkFor, walkUnder, checkUnder, check}
 use Rattle.bson.specs.Join.{Outcome, wrote, refused, Joined, passing, sizeOfBoth, bothPut, join}
 use Rattle.bson.specs.Writer.{room}
 use Rattle.laws.proofs.AnswerLaws.{oneOf, RefusesIn, given, by, then-in, unless-in, cond-in, at-in, refused-in, within, one-within, weaken, then-gives}
 use Rattle.laws.proofs.StepLaws.{Yields, step-yields, Each, iterate-each}
 use Rattle.laws.proofs.CheckLaws.{visit-says}
 use Rattle.laws.proofs.OpenLaws.{value-opens, opens-shorter}
 use Rattle.laws.proofs.ReadLaws.{element-at-says}
 use Rattle.laws.proofs.GrammarBack.{regex-alone}
-use Rattle.theorems.proofs.Items.{sized-by}
+use Rattle.laws.proofs.TagLaws.{sized-by}
 use Tags.{ElementType, Boolean, Int32, Double, Int64, DateTime, Timestamp, ObjectId, Decimal128, Null, Undefined, MinKey, MaxKey}
 use Tags.{String, JavaScriptCode, Symbol, DbPointer, EmbeddedDocument, Array, Binary, RegularExpression, JavaScriptCodeWithScope}
 use Tags.{Sized, fixed, asString, asPointer, asDocument, asBinary, asRegex, asScope, Row, tags, find, rowOf, typeOf}
