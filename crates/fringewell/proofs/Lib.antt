@@ -1,5 +1,3 @@
 mod Limits
 pub mod Through
-pub mod NoWeaker
-pub mod ReadOnce
 pub mod Determined

@@ -17,8 +17,8 @@ use Rattle.theorems.specs.ReadBack.{Building, unopened, built, Session, next, r
 use Rattle.theorems.proofs.ReadBack.{writer-reads-back}
 use Rattle.doc_writer.specs.declared.DocWriter.{DocWriter}
 use Rattle.doc_writer.specs.declared.Written.{Written}
-use Rattle.writer_trace.specs.Turn as turns
-use Rattle.writer_trace.specs.Turn.{Lent, Turn, session, afterTurn, Trace, done, turn, WriterTraceReadsBack, ClosedReadsBack}
+use Rattle.promises.specs.Turn as turns
+use Rattle.promises.specs.Turn.{Lent, Turn, session, afterTurn, Trace, done, turn, WriterTraceReadsBack, ClosedReadsBack}
 
 -- each promise says that what is left is what the definition performs
 pub turn-performs : {out : Lent} {w : DocWriter} {r : Written} {c : Call} {left : List ℕ} → Turn out w r c left

@@ -1,0 +1,4 @@
+pub mod Trace
+pub mod NoWeaker
+pub mod OneFrame
+pub mod ReadOnce

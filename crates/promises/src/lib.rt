@@ -1,0 +1,1 @@
+// What the promises of the calls say together stands in proofs/. There is no code.
