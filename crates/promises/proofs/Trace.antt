@@ -14,7 +14,7 @@ use Rattle.laws.proofs.WriterRefusals.{refused-number, unchanged}
 use Rattle.laws.proofs.WriterLaws.{bytes-behind}
 use Rattle.theorems.specs.ReadBack as readBack
 use Rattle.theorems.specs.ReadBack.{Building, unopened, built, Session, next, run, begin, Stands}
-use Rattle.theorems.proofs.ReadBack.{writer-reads-back}
+use Rattle.theorems.proofs.Writer.ReadBack.{writer-reads-back}
 use Rattle.doc_writer.specs.declared.DocWriter.{DocWriter}
 use Rattle.doc_writer.specs.declared.Written.{Written}
 use Rattle.promises.specs.Turn as turns

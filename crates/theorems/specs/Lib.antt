@@ -1,7 +1,7 @@
 pub mod Demand3
-pub mod Limited
-pub mod Accounted
+pub mod OrLong
+pub mod EveryYield
 pub mod EveryByte
-pub mod Children
+pub mod FirstChild
 pub mod OneMeaning
 pub mod ReadBack

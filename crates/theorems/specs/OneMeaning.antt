@@ -16,7 +16,7 @@ use Rattle.bson.specs.Meaning.{Means}
 use Rattle.bson.specs.Reach.{start, Comes}
 use Rattle.bson.specs.Cstring.{unlimited}
 use Rattle.theorems.specs.EveryByte.{OneRole}
-use Rattle.theorems.specs.Children.{childOf, LooksUp}
+use Rattle.theorems.specs.FirstChild.{childOf, LooksUp}
 
 -- a slice is the bytes of a good tree of n values, none deeper than 200
 pub record Frame (s : List ℕ) (n : ℕ) (t : Elements) : Type 0 where

@@ -12,15 +12,15 @@ use Rattle.bson.specs.Meaning.{Means}
 use Rattle.bson.specs.Reach.{Spot, start, Comes, first, next, into}
 use Rattle.laws.proofs.GrammarBack.{bytes-are}
 use Rattle.theorems.specs.OneMeaning.{Frame, OneTree, OneMeaning}
-use Rattle.theorems.proofs.Spots.{comes-accepted}
-use Rattle.theorems.proofs.EveryByte.{every-byte}
-use Rattle.theorems.proofs.Whole.{check-passes}
-use Rattle.theorems.proofs.Means.{means-back}
-use Rattle.theorems.proofs.Unique.{tree-injective}
-use Rattle.theorems.proofs.Passes.{KeysAsked, plain-asked, means-passes}
-use Rattle.theorems.proofs.Meant.{meant-bytes}
-use Rattle.theorems.proofs.TreeOf.{accepted-tree, passed-tree}
-use Rattle.theorems.proofs.Children.{lookup-child}
+use Rattle.theorems.proofs.Check.Spots.{comes-accepted}
+use Rattle.theorems.proofs.Grammar.EveryByte.{every-byte}
+use Rattle.theorems.proofs.Check.Whole.{check-passes}
+use Rattle.theorems.proofs.Grammar.TreeReads.{means-back}
+use Rattle.theorems.proofs.Grammar.Unique.{tree-injective}
+use Rattle.theorems.proofs.Grammar.TreePasses.{KeysAsked, plain-asked, means-passes}
+use Rattle.theorems.proofs.Grammar.ReadTree.{meant-bytes}
+use Rattle.theorems.proofs.Grammar.PassedTree.{accepted-tree, passed-tree}
+use Rattle.theorems.proofs.Grammar.FirstChild.{lookup-child}
 use Rattle.bson.specs.Cstring.{unlimited}
 
 -- each check accepts exactly the bytes of the good trees whose keys are as it asks

@@ -19,9 +19,9 @@ use Rattle.laws.proofs.Common.{split}
 use Rattle.laws.proofs.StepLaws.{step-admits, step-yields}
 use Rattle.laws.proofs.AdvanceLaws.{step-ends, ended-at}
 use Rattle.laws.proofs.CheckLaws.{walk-eq}
-use Rattle.theorems.proofs.Spots.{walkAt, left, Inner, plain, deep, Opened, Walked, ended, more, walked-says, walked-gives}
-use Rattle.theorems.proofs.Spots.{opens-deeper, Onward, accepted-onward, comes-accepted}
-use Rattle.theorems.proofs.First.{ends-next}
+use Rattle.theorems.proofs.Check.Spots.{walkAt, left, Inner, plain, deep, Opened, Walked, ended, more, walked-says, walked-gives}
+use Rattle.theorems.proofs.Check.Spots.{opens-deeper, Onward, accepted-onward, comes-accepted}
+use Rattle.theorems.proofs.Check.FirstOfKey.{ends-next}
 use Rattle.bson.specs.Cstring.{Limit}
 
 module _ (limit : Limit) where

@@ -12,7 +12,7 @@ use Rattle.bson.specs.Step.{terminator, Element, past}
 use Rattle.bson.specs.Reach.{Ends, here, later, From, first, next, Among}
 use Rattle.laws.proofs.Common.{split}
 use Rattle.theorems.specs.EveryByte.{Role, ofLength, ofTerminator, ofTag, ofKey, ofZero, ofValue, Has, OneRole}
-use Rattle.theorems.proofs.First.{among-yields, Covers, one-covers, ends-high, covers-between}
+use Rattle.theorems.proofs.Check.FirstOfKey.{among-yields, Covers, one-covers, ends-high, covers-between}
 use Rattle.bson.specs.Cstring.{unlimited}
 
 -- the role of an offset that an element covers: its tag, its key, its zero and its value lie one behind the other

@@ -13,9 +13,9 @@ use Rattle.bson.specs.Grammar.{elementBytes, documentOf, listBytes, treeBytes, 
 use Rattle.bson.specs.Meaning.{single, MeansFrom, ends, yields, opens, Means}
 use Rattle.laws.proofs.AdvanceLaws.{step-ends}
 use Rattle.laws.proofs.GrammarLaws.{length-bytes32, length-document, document-admitted}
-use Rattle.theorems.proofs.Items.{item-reads}
-use Rattle.theorems.proofs.Nests.{nest-longer, nest-reads}
-use Rattle.theorems.proofs.Steps.{elementHere, element-fits, value-here, next-here, yields-here}
+use Rattle.theorems.proofs.Grammar.ItemReads.{item-reads}
+use Rattle.theorems.proofs.Grammar.NestReads.{nest-longer, nest-reads}
+use Rattle.theorems.proofs.Grammar.ElementReads.{elementHere, element-fits, value-here, next-here, yields-here}
 use Rattle.bson.specs.Cstring.{unlimited}
 
 -- a document's elements begin behind its length

@@ -20,10 +20,10 @@ use Rattle.laws.proofs.GrammarLaws.{length-document}
 use Rattle.laws.proofs.WriterWords.{fresh-words}
 use Rattle.laws.proofs.WriterLaws.{room-small, bytes-behind}
 use Rattle.laws.proofs.TreeLaws.{behind-none, behind-behind, count-behind, none-length, leaf-length, nest-length}
-use Rattle.theorems.proofs.Holds.{shown, many, Holds}
-use Rattle.theorems.proofs.Shown.{shown-with, shown-top, shown-nested}
-use Rattle.theorems.proofs.Trace.{top-holds, append-holds, open-holds, close-holds, close-top}
-use Rattle.theorems.proofs.Taken.{append-taken, nest-taken, close-taken, top-taken}
+use Rattle.theorems.proofs.Writer.DeskHolds.{shown, many, Holds}
+use Rattle.theorems.proofs.Writer.OpenBytes.{shown-with, shown-top, shown-nested}
+use Rattle.theorems.proofs.Writer.CallHolds.{top-holds, append-holds, open-holds, close-holds, close-top}
+use Rattle.theorems.proofs.Writer.CallTaken.{append-taken, nest-taken, close-taken, top-taken}
 
 -- calls that are all answered 0, and the session that they leave
 

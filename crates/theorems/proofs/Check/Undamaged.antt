@@ -22,8 +22,8 @@ use Rattle.laws.proofs.BytesLaws.{same-eq}
 use Rattle.laws.proofs.StepLaws.{step-yields, step-admits}
 use Rattle.laws.proofs.AdvanceLaws.{step-ended, ended-at}
 use Rattle.laws.proofs.LookupLaws.{search-from, search-ends, search-found, search-onward, get-finds}
-use Rattle.theorems.proofs.Spots.{Walked, ended, more, walked-says, accepted-onward, comes-accepted}
-use Rattle.theorems.proofs.First.{among-yields, first-one, Without, without-next}
+use Rattle.theorems.proofs.Check.Spots.{Walked, ended, more, walked-says, accepted-onward, comes-accepted}
+use Rattle.theorems.proofs.Check.FirstOfKey.{among-yields, first-one, Without, without-next}
 use Rattle.bson.specs.Cstring.{Limit}
 use Rattle.bson.specs.Check.{checkUnder}
 

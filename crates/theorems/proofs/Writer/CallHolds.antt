@@ -24,8 +24,8 @@ use Rattle.laws.proofs.WriterWords.{pushed-used, pushed-depth, pushed-start, pu
 use Rattle.laws.proofs.WriterLaws.{room-within, innermost-says, sizes, taken, Appended, appended-says, opened-says, topped-says}
 use Rattle.laws.proofs.WriterLaws.{sealed, closed-says, bytes-behind}
 use Rattle.laws.proofs.TreeLaws.{count-behind, leaf-bytes, none-length}
-use Rattle.theorems.proofs.Holds.{shown, startOf, kindFor, kindIs, Tied, HoldsAll, many, Holds}
-use Rattle.theorems.proofs.Shown.{shown-with, start-with, shown-opened, front, shown-front, start-front, front-tree, shown-length, shown-top}
+use Rattle.theorems.proofs.Writer.DeskHolds.{shown, startOf, kindFor, kindIs, Tied, HoldsAll, many, Holds}
+use Rattle.theorems.proofs.Writer.OpenBytes.{shown-with, start-with, shown-opened, front, shown-front, start-front, front-tree, shown-length, shown-top}
 
 -- the words
 

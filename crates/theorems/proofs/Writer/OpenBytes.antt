@@ -9,7 +9,7 @@ use Rattle.bson.specs.Grammar.{bytes32, Embedded, embedded, nestTag, Elements, 
 use Rattle.theorems.specs.ReadBack.{Open, opened, with}
 use Rattle.laws.proofs.GrammarLaws.{length-bytes32, length-element}
 use Rattle.laws.proofs.TreeLaws.{list-behind, nest-bytes}
-use Rattle.theorems.proofs.Holds.{shown, startOf}
+use Rattle.theorems.proofs.Writer.DeskHolds.{shown, startOf}
 
 -- the bytes of open documents
 

@@ -15,8 +15,8 @@ use Rattle.laws.proofs.Common.{split}
 use Rattle.laws.proofs.ReadLaws.{read-step}
 use Rattle.laws.proofs.StepLaws.{iterate-eq}
 use Rattle.laws.proofs.GrammarBack.{bytes-are}
-use Rattle.theorems.specs.Children.{Child, item, inner, childOf, childTag, childBytes, Is, LooksUp}
-use Rattle.theorems.proofs.Meant.{yields-codes, meant-bytes}
+use Rattle.theorems.specs.FirstChild.{Child, item, inner, childOf, childTag, childBytes, Is, LooksUp}
+use Rattle.theorems.proofs.Grammar.ReadTree.{yields-codes, meant-bytes}
 use Rattle.bson.specs.Cstring.{unlimited}
 
 -- an answer is a child, or that there is none

@@ -10,7 +10,7 @@ use Rattle.bson.specs.Bytes.{bytes, same}
 use Rattle.bson.specs.Step.{terminator, cursor, Element, past, yield, stepUnder}
 use Rattle.bson.specs.Reach.{Ends, here, later, From, first, next, Among, First}
 use Rattle.laws.proofs.StepLaws.{Yields, step-yields}
-use Rattle.theorems.proofs.Spots.{one-element}
+use Rattle.theorems.proofs.Check.Spots.{one-element}
 use Rattle.laws.proofs.BytesLaws.{same-self}
 use Rattle.bson.specs.Cstring.{Limit}
 

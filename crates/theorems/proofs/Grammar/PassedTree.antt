@@ -1,5 +1,5 @@
 -- What a check accepts means a tree, with as many values, none deeper than 200, and the keys of arrays as the check asks: the way back from
--- Passes (document 01, "The whole check"). Assumes nothing.
+-- TreePasses (document 01, "The whole check"). Assumes nothing.
 use Prim.Native.Nat.{ℕ, zero, suc, _+_, _-_, _<_}
 use mathlib.Core.Path.{_≡_, refl, sym, ap, subst, _∙_}
 use mathlib.Core.List.{List}
@@ -19,9 +19,9 @@ use Rattle.laws.proofs.StepLaws.{step-yields}
 use Rattle.laws.proofs.AdvanceLaws.{ended-at}
 use Rattle.laws.proofs.CheckLaws.{Visited, walk-eq}
 use Rattle.laws.proofs.GrammarBack.{bytes-are}
-use Rattle.theorems.proofs.Spots.{walkAt, left, Inner, plain, deep, Walked, ended, more, walked-says, opens-deeper}
-use Rattle.theorems.proofs.ItemsBack.{CodesOf, element-codes}
-use Rattle.theorems.proofs.Passes.{KeysAsked, openingOf, holding-opens}
+use Rattle.theorems.proofs.Check.Spots.{walkAt, left, Inner, plain, deep, Walked, ended, more, walked-says, opens-deeper}
+use Rattle.theorems.proofs.Grammar.ItemBytes.{CodesOf, element-codes}
+use Rattle.theorems.proofs.Grammar.TreePasses.{KeysAsked, openingOf, holding-opens}
 use Rattle.bson.specs.Cstring.{unlimited}
 
 -- from a spot on, the document means a tree of n values that a check accepts

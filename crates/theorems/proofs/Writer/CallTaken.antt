@@ -16,9 +16,9 @@ use Rattle.laws.proofs.WriterWords.{fresh-closed}
 use Rattle.laws.proofs.WriterLaws.{stand-gives, possible-gives, innermost-gives, Appended, appended-gives, opened-gives, topped-gives, closed-gives}
 use Rattle.laws.proofs.TreeLaws.{count-within}
 use Rattle.theorems.specs.ReadBack.{Open, keyFor}
-use Rattle.theorems.proofs.Holds.{shown, startOf, kindFor, kindIs, Tied, many, Holds}
-use Rattle.theorems.proofs.Shown.{shown-length, start-nested}
-use Rattle.theorems.proofs.Trace.{last-is, key-in}
+use Rattle.theorems.proofs.Writer.DeskHolds.{shown, startOf, kindFor, kindIs, Tied, many, Holds}
+use Rattle.theorems.proofs.Writer.OpenBytes.{shown-length, start-nested}
+use Rattle.theorems.proofs.Writer.CallHolds.{last-is, key-in}
 
 -- no state of open documents is impossible
 

@@ -2,9 +2,9 @@
 use mathlib.Core.Path.{refl}
 use native.Mathlib.Omega.{arith}
 use Rattle.bson.specs.Step.{iterateUnder, elements}
-use Rattle.theorems.specs.Accounted.{extent, YieldedBytes}
-use Rattle.theorems.proofs.Told.{step-lies, scope-size, accounted, adds-from, told-from, overruns}
-use Rattle.theorems.proofs.Refused.{check-met}
+use Rattle.theorems.specs.EveryYield.{extent, YieldedBytes}
+use Rattle.theorems.proofs.Check.NoGap.{step-lies, scope-size, accounted, adds-from, told-from, overruns}
+use Rattle.theorems.proofs.Check.WhereRefused.{check-met}
 
 pub yielded-bytes : YieldedBytes
 yielded-bytes limit s n a =

@@ -29,7 +29,7 @@ use Rattle.laws.proofs.GrammarBack.{i64-ranged, timestamp-back, string-back, po
 use Rattle.laws.proofs.StepLaws.{step-yields}
 use Rattle.laws.proofs.OpenLaws.{scope-says, le32-take}
 use Rattle.laws.proofs.TagLaws.{sizeFor, tagFor, sized-by, type-tag}
-use Rattle.theorems.proofs.Items.{bytes-here, regex-here}
+use Rattle.theorems.proofs.Grammar.ItemReads.{bytes-here, regex-here}
 use Tags.{ElementType, Boolean, Int32, Double, Int64, DateTime, Timestamp, ObjectId, Decimal128, Null, Undefined, MinKey, MaxKey}
 use Tags.{String, JavaScriptCode, Symbol, DbPointer, EmbeddedDocument, Array, Binary, RegularExpression, JavaScriptCodeWithScope, fixed, typeOf}
 use Value.{boolean, int32, int64, dateTime, double, timestamp, string, code, symbol, null, undefined, minKey, maxKey, dbPointer, binary, regex}

@@ -7,9 +7,9 @@ use Rattle.bson.specs.Answer.{gives}
 use Rattle.bson.specs.Level.{Level}
 use Rattle.bson.specs.Reach.{start, Comes}
 use Rattle.theorems.specs.Demand3.{Lookups, Undamaged, Demand3}
-use Rattle.theorems.proofs.Whole.{check-passes, strict-passes}
-use Rattle.theorems.proofs.Count.{check-counts, number-unique}
-use Rattle.theorems.proofs.Passed
+use Rattle.theorems.proofs.Check.Whole.{check-passes, strict-passes}
+use Rattle.theorems.proofs.Check.Count.{check-counts, number-unique}
+use Rattle.theorems.proofs.Check.Undamaged as passed
 use Rattle.bson.specs.Cstring.{Limit}
 use Rattle.bson.specs.Check.{checkUnder}
 
@@ -17,23 +17,23 @@ module _ (limit : Limit) where
   lookups-hold : (s : List ℕ) (n : ℕ) → checkUnder limit false s ≡ gives n → (d : List ℕ) (l : Level) → Comes limit s (start d l) → (key : List ℕ) → Lookups limit d key
   lookups-hold s n p d l c key =
       record {
-        absent = Passed.lookup-absent limit s n p d l c key;
-        refused = Passed.lookup-refused limit s n p d l c key;
-        first = Passed.lookup-first limit s n p d l c key;
-        reads = Passed.lookup-value limit s n p d l c key;
-        framed = Passed.lookup-bytes limit s n p d l c key;
-        typed-absent = Passed.typed-absent limit s n p d l c key;
-        typed-other = Passed.typed-other limit s n p d l c key;
-        typed-first = Passed.typed-first limit s n p d l c key;
-        typed-refused = Passed.typed-refused limit s n p d l c key;
+        absent = passed.lookup-absent limit s n p d l c key;
+        refused = passed.lookup-refused limit s n p d l c key;
+        first = passed.lookup-first limit s n p d l c key;
+        reads = passed.lookup-value limit s n p d l c key;
+        framed = passed.lookup-bytes limit s n p d l c key;
+        typed-absent = passed.typed-absent limit s n p d l c key;
+        typed-other = passed.typed-other limit s n p d l c key;
+        typed-first = passed.typed-first limit s n p d l c key;
+        typed-refused = passed.typed-refused limit s n p d l c key;
       }
 
   passed-undamaged : (s : List ℕ) (n : ℕ) → checkUnder limit false s ≡ gives n → Undamaged limit s
   passed-undamaged s n p =
       record {
-        steps = Passed.step-answers limit s n p;
-        readings = Passed.reading-answers limit s n p;
-        typed-readings = Passed.reading-other limit s n p;
+        steps = passed.step-answers limit s n p;
+        readings = passed.reading-answers limit s n p;
+        typed-readings = passed.reading-other limit s n p;
         lookups = lookups-hold s n p;
       }
 

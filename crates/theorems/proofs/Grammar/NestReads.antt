@@ -19,7 +19,7 @@ use Rattle.bson.specs.Grammar.{Embedded, document, array, Nest, embedded, scope
 use Rattle.bson.specs.Meaning.{nested, holding}
 use Rattle.laws.proofs.TagLaws.{sizeFor}
 use Rattle.laws.proofs.GrammarLaws.{length-bytes32, length-string, length-document, string-of, document-of, document-admitted, scope-of}
-use Rattle.theorems.proofs.Items.{bytes-here, drop-behind, Reads, here-bytes, typed-value, text-here}
+use Rattle.theorems.proofs.Grammar.ItemReads.{bytes-here, drop-behind, Reads, here-bytes, typed-value, text-here}
 
 -- bytes at an offset, with others behind, are read as a nest with this document
 pub record ReadsNest (s : List ℕ) (offset : ℕ) (n : Nest) (list back : List ℕ) : Type 0 where

@@ -24,7 +24,7 @@ use Rattle.laws.proofs.FramingLaws.{scope-is}
 use Rattle.laws.proofs.ReadRefusals.{framings, element-in}
 use Rattle.laws.proofs.StepLaws.{admitted-says, step-yields, iterate-eq}
 use Rattle.laws.proofs.TagLaws.{sized-by}
-use Rattle.theorems.specs.Accounted.{Lies, Accounted, extent, AddUp, Overrun}
+use Rattle.theorems.specs.EveryYield.{Lies, Accounted, extent, AddUp, Overrun}
 
 module _ (limit : Limit) (s : List ℕ) (c : Cursor) (e : Element) (q : stepUnder limit s c ≡ gives (yield e)) where
   pub step-lies : Lies s (c .offset) e

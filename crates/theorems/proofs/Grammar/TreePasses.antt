@@ -17,7 +17,7 @@ use Rattle.bson.specs.Reach.{Spot, behind}
 use Rattle.laws.proofs.Common.{split}
 use Rattle.laws.proofs.ReadLaws.{read-step}
 use Rattle.laws.proofs.CheckLaws.{walk-from, walk-eq, walk-ends}
-use Rattle.theorems.proofs.Spots.{walkAt, Inner, plain, deep, more, walked-gives}
+use Rattle.theorems.proofs.Check.Spots.{walkAt, Inner, plain, deep, more, walked-gives}
 use Rattle.bson.specs.Cstring.{unlimited}
 
 -- what a check asks of the keys in arrays: the plain one nothing

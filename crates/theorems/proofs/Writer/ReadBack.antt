@@ -21,10 +21,10 @@ use Rattle.laws.proofs.GrammarLaws.{length-document}
 use Rattle.laws.proofs.TreeLaws.{ordered-behind, shallow-behind, keys-behind}
 use Rattle.laws.proofs.WriterWords.{fresh-closed}
 use Rattle.laws.proofs.WriterLaws.{possible-says, top-used, innermost-says, Appended, appended-says, opened-says, topped-says, closed-says}
-use Rattle.theorems.proofs.Holds.{kindFor, Holds}
-use Rattle.theorems.proofs.Means.{means-back}
-use Rattle.theorems.proofs.Passes.{plain-asked, means-passes}
-use Rattle.theorems.proofs.Trace.{kind-is, top-holds, append-holds, open-holds, close-holds, close-top}
+use Rattle.theorems.proofs.Writer.DeskHolds.{kindFor, Holds}
+use Rattle.theorems.proofs.Grammar.TreeReads.{means-back}
+use Rattle.theorems.proofs.Grammar.TreePasses.{plain-asked, means-passes}
+use Rattle.theorems.proofs.Writer.CallHolds.{kind-is, top-holds, append-holds, open-holds, close-holds, close-top}
 
 -- the elements of an open document are a good tree of values this deep
 record Sound (o : Open) (level : ℕ) : Type 0 where

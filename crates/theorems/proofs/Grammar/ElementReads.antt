@@ -19,7 +19,7 @@ use Rattle.bson.specs.Grammar.{elementBytes}
 use Rattle.bson.specs.Meaning.{Holding, holding, Yields}
 use Rattle.laws.proofs.AdvanceLaws.{step-inside}
 use Rattle.laws.proofs.GrammarLaws.{length-element, cstring-of}
-use Rattle.theorems.proofs.Items.{bytes-here, drop-behind}
+use Rattle.theorems.proofs.Grammar.ItemReads.{bytes-here, drop-behind}
 
 -- the element of this tag, key and value at an offset
 abbrev pub elementHere : ℕ → ℕ → List ℕ → List ℕ → Element

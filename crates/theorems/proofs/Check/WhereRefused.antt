@@ -19,8 +19,8 @@ use Rattle.laws.proofs.AnswerLaws.{never}
 use Rattle.laws.proofs.StepLaws.{Yields, step-yields, admitted-says}
 use Rattle.laws.proofs.CheckLaws.{visit-says}
 use Rattle.laws.proofs.OpenLaws.{value-opens, opens-shorter}
-use Rattle.theorems.specs.Accounted.{Accounted, OfElement, Met}
-use Rattle.theorems.proofs.Told.{accounted}
+use Rattle.theorems.specs.EveryYield.{Accounted, OfElement, Met}
+use Rattle.theorems.proofs.Check.NoGap.{accounted}
 
 -- refused, if at all, as this says of the number and of the offset in a document that begins at a base
 data Refused {A : Type 0} (base : ℕ) (P : ℕ → ℕ → Type 0) : Answer A → Type 0 where

@@ -19,7 +19,7 @@ use Rattle.laws.proofs.ReadLaws.{read-step, read-says}
 use Rattle.laws.proofs.StepLaws.{step-yields}
 use Rattle.laws.proofs.AdvanceLaws.{ended-at}
 use Rattle.laws.proofs.CheckLaws.{Visited, walk-eq}
-use Rattle.theorems.proofs.Spots.{walkAt, left, Inner, plain, deep, Walked, ended, more, walked-says, opens-deeper, one-element}
+use Rattle.theorems.proofs.Check.Spots.{walkAt, left, Inner, plain, deep, Walked, ended, more, walked-says, opens-deeper, one-element}
 use Rattle.bson.specs.Check.{checkUnder}
 use Rattle.bson.specs.Cstring.{Limit}
 

@@ -9,8 +9,8 @@ use Rattle.bson.specs.Step.{Element, past}
 use Rattle.bson.specs.Grammar.{Item, Nest, Elements, treeBytes, Good}
 use Rattle.bson.specs.Meaning.{Holding, single, nested, holding, Yields, MeansFrom, ends, yields, opens, Means}
 use Rattle.laws.proofs.AnswerLaws.{gives-injective}
-use Rattle.theorems.proofs.Means.{means-back}
-use Rattle.theorems.proofs.Spots.{one-element, end-no-element}
+use Rattle.theorems.proofs.Grammar.TreeReads.{means-back}
+use Rattle.theorems.proofs.Check.Spots.{one-element, end-no-element}
 use Rattle.bson.specs.Cstring.{unlimited}
 
 single-not-nested : {item : Item} {n : Nest} {p : Part} → single item ≡ nested n p → ⊥

@@ -1,4 +1,4 @@
--- A document that means a tree is the bytes of this tree, which is a good one: the way back from Means (BSON 1.1, "Specification"; document 01,
+-- A document that means a tree is the bytes of this tree, which is a good one: the way back from TreeReads (BSON 1.1, "Specification"; document 01,
 -- "Admission and one step" and "Values"). Assumes nothing.
 use Prim.Native.Nat.{ℕ, suc, _+_, _-_, _≤_}
 use mathlib.Core.Path.{_≡_, sym, ap, subst, _∙_}
@@ -19,7 +19,7 @@ use Rattle.laws.proofs.CstringLaws.{cstring-splits}
 use Rattle.laws.proofs.StepLaws
 use Rattle.laws.proofs.StepLaws.{admitted-says, step-admits, step-yields, key-valid}
 use Rattle.laws.proofs.GrammarBack.{bytes-are, document-back}
-use Rattle.theorems.proofs.ItemsBack.{CodesOf, element-codes}
+use Rattle.theorems.proofs.Grammar.ItemBytes.{CodesOf, element-codes}
 
 -- the bytes from an offset on are those of a part that begins there, and the rest
 part-front : (s : List ℕ) (p : Part) → drop (p .offset) s ≡ bytes s p ++ drop (p .offset + p .size) s

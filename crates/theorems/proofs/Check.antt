@@ -1,0 +1,11 @@
+pub mod Spots
+pub mod Whole
+pub mod Count
+pub mod Undamaged
+pub mod FirstOfKey
+pub mod TypedRefused
+pub mod Demand3
+pub mod OrLong
+pub mod NoGap
+pub mod WhereRefused
+pub mod EveryYield

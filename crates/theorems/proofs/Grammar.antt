@@ -1,0 +1,12 @@
+pub mod ItemReads
+pub mod ItemBytes
+pub mod NestReads
+pub mod ElementReads
+pub mod TreeReads
+pub mod ReadTree
+pub mod Unique
+pub mod TreePasses
+pub mod PassedTree
+pub mod EveryByte
+pub mod FirstChild
+pub mod OneMeaning
