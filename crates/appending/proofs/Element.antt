@@ -3,37 +3,20 @@
 use Prim.Native.Nat.{ℕ, _+_, _-_, _≤_, _<_, _^_}
 use mathlib.Core.Path.{_≡_, refl, sym, ap, _∙_}
 use mathlib.Core.List.{List, [], _∷_}
-use mathlib.Core.Bool.{Bool, true, false, cond, _&&_}
+use mathlib.Core.Bool.{Bool, true, true≢false}
 use native.Mathlib.Omega.{arith}
-use lib.Dec.{leb, eqb}
 use lib.ListN.{length}
-use borrow.Author.Tests.{leb-true, le-leb, eq-eqb, ne-eqb}
-use Rattle.bson.specs.Answer.{Answer, gives, refuses, unless}
+use borrow.Author.Tests.{leb-true, le-leb}
+use Rattle.bson.specs.Answer.{Answer, gives, refuses}
 use Rattle.bson.specs.Grammar.{elementBytes}
 use Rattle.bson.specs.Output.{Output, output, put, putTexts, joined}
-use Rattle.bson.specs.Writer.{State, used, depth, Kind, inDocument, inArray, nextDepth, keyIn, keyPasses, innermost, kindHolds, grown, Desk, desk, room, written}
+use Rattle.bson.specs.Writer.{State, used, depth, Kind, inDocument, inArray, keyIn, innermost, kindHolds, roomFor, grown, desk, room, written}
 use Rattle.laws.proofs.GrammarLaws.{length-element}
 use Rattle.laws.proofs.OutputLaws.{texts-fit}
-use Rattle.laws.proofs.WriterLaws.{room-within, innermost-says, Sizes, sizes}
-use Rattle.appending.specs.Refusal.{refusalOf}
+use Rattle.laws.proofs.WriterLaws.{room-within, innermost-says, Sizes, sizes, room-says}
+use Rattle.laws.proofs.WriterRefusals.{room-refused}
+use Rattle.appending.specs.Refusal.{numberOf}
 use Rattle.appending.specs.Heading.{headed, heading}
-
--- an answer by its number
-abbrev byNumber : ℕ → Desk → Answer Desk
-byNumber n e = cond (eqb n 0) (gives e) (refuses n 0)
-
-cascade : (a b c : Bool) (e : Desk)
-    → unless a 13 (unless b 15 (unless c 14 (gives e))) ≡ byNumber (cond a (cond b (cond c 0 14) 15) 13) e
-cascade false b c e = refl
-cascade true false c e = refl
-cascade true true false e = refl
-cascade true true true e = refl
-
-let-pass : (a b c : Bool) → _≡_ {A = ℕ} 0 (cond a (cond b (cond c 0 14) 15) 13) → c ≡ true
-let-pass false b c e = absurd (omega arith)
-let-pass true false c e = absurd (omega arith)
-let-pass true true false e = absurd (omega arith)
-let-pass true true true e = refl
 
 -- the texts of a head are its bytes
 abbrev pub texts : ℕ → List ℕ → List (List ℕ)
@@ -55,10 +38,7 @@ module _ (w : State) (buffer : List ℕ) (m : ℕ) (kind : Kind) (em : m ≡ roo
   known : Sizes (desk w buffer) kind
   known = sizes (desk w buffer) kind (innermost-says (desk w buffer) kind inner)
 
-  -- what the tests rely on, and what a word more relies on
-  pub left-open : (0 < depth w) × (used w + depth w ≤ m)
-  left-open = (known .some, omega (arith, em, known .fits))
-
+  -- what a word more relies on
   pub few : (depth w ≤ 202) × (kindHolds 2147483647 kind ≡ true)
   few = (known .most, still-holds kind (used w) (omega (arith, known .small)) (known .counted))
 
@@ -67,69 +47,63 @@ module _ (w : State) (buffer : List ℕ) (m : ℕ) (kind : Kind) (em : m ≡ roo
   front : List ℕ
   front = elementBytes tag (keyIn kind key) []
 
-  whole : ℕ
-  whole = 2 + length (keyIn kind key) + size
-
-  low : Bool
-  low = leb (nextDepth w) 200
-
-  in-order : Bool
-  in-order = keyPasses kind key && good
-
-  fitting : Bool
-  fitting = leb (used w + whole + (depth w + more)) (room (length buffer))
-
-  after : Desk
-  after = desk (grown kind w whole) (put buffer (used w) front)
-
-  module _ (n : ℕ) (en : n ≡ refusalOf w m kind more key good size) where
-    number-is : n ≡ cond low (cond in-order (cond fitting 0 14) 15) 13
-    unfolding refusalOf low in-order fitting whole
-    number-is = en ∙ rw em
-
-    by-refusal : headed (desk w buffer) more tag key good size ≡ byNumber n after
-    unfolding headed low in-order fitting whole front after
-    by-refusal = rw (inner w buffer m kind em ei, number-is) (cascade low in-order fitting after)
+  module _ (n : ℕ) (en : n ≡ numberOf (roomFor w m more key good size)) where
+    number-is : n ≡ numberOf (roomFor w (room (length buffer)) more key good size)
+    number-is = en ∙ ap (λ (k : ℕ). numberOf (roomFor w k more key good size)) em
 
     pub refused : (n ≡ 0 → ⊥) → written n w buffer ≡ heading w buffer more tag key good size
-    unfolding heading
-    refused h = rw (by-refusal, ne-eqb n 0 h)
+    unfolding heading headed
+    refused h = by (roomFor w (room (length buffer)) more key good size) refl
+      where
+        by : (a : Answer Kind) → roomFor w (room (length buffer)) more key good size ≡ a → written n w buffer ≡ heading w buffer more tag key good size
+        by (gives k) q = absurd (h (number-is ∙ ap numberOf q))
+        by (refuses k p) q = rw (number-is, q)
+
+    -- 0 is no refusal, so it tells that the kind is given
+    passed : n ≡ 0 → roomFor w (room (length buffer)) more key good size ≡ gives kind
+    passed z = by (roomFor w (room (length buffer)) more key good size) refl
+      where
+        by : (a : Answer Kind) → roomFor w (room (length buffer)) more key good size ≡ a
+            → roomFor w (room (length buffer)) more key good size ≡ gives kind
+        by (gives k) q =
+            let r = room-says w (room (length buffer)) more key good size k q in
+            q ∙ sym (r .inner) ∙ inner w buffer m kind em ei
+        by (refuses k p) q =
+            let k0 : k ≡ 0 = sym (number-is ∙ ap numberOf q) ∙ z in
+            absurd (true≢false (sym (rw k0 at (room-refused w (room (length buffer)) more key good size k p q))))
 
     module _ (e : n ≡ 0) (at : ℕ) (ea : at ≡ used w) (exit : List ℕ) (end : ℕ)
         (eo : output exit end ≡ putTexts (output buffer at) (texts tag (keyIn kind key))) where
-      whole-fits : used w + whole + (depth w + more) ≤ room (length buffer)
-      unfolding fitting
-      whole-fits = leb-true _ _ (let-pass low in-order fitting (sym e ∙ number-is))
-
-      front-length : length front ≡ 2 + length (keyIn kind key)
+      front-fits : used w + (length front + size) + (depth w + more) ≤ room (length buffer)
       unfolding front
-      front-length = omega (arith, length-element tag (keyIn kind key) [])
+      front-fits =
+          let r = room-says w (room (length buffer)) more key good size kind (passed e) in
+          omega (arith, r .fits, length-element tag (keyIn kind key) [])
 
       front-put : output exit end ≡ output (put buffer (used w) front) (used w + length front)
-      unfolding front whole
+      unfolding front
       front-put =
-          let f = whole-fits in
+          let f = front-fits in
           let l = room-within (length buffer) .0 in
           let j = texts-joined tag (keyIn kind key) in
           let k : length (joined (texts tag (keyIn kind key))) ≡ length front = ap length j in
           eo
-          ∙ texts-fit (output buffer at) (texts tag (keyIn kind key)) (omega (arith, k, ea, front-length))
+          ∙ texts-fit (output buffer at) (texts tag (keyIn kind key)) (omega (arith, k, ea))
           ∙ ap (λ (t : List ℕ). output (put buffer at t) (at + length t)) j
           ∙ ap (λ (a : ℕ). output (put buffer a front) (a + length front)) ea
 
-      grown-by : end - at + size ≡ whole
-      unfolding whole
-      grown-by = let i : end ≡ used w + length front = ap (λ (o : Output). o .used) front-put in omega (arith, front-length)
+      grown-by : end - at + size ≡ length front + size
+      grown-by = let i : end ≡ used w + length front = ap (λ (o : Output). o .used) front-put in omega arith
 
       -- the used bytes grow, and stay a word
       pub grows : (at ≤ end) × (used w + (end - at + size) < 2 ^ 32)
       grows =
           let i : end ≡ used w + length front = ap (λ (o : Output). o .used) front-put in
           let l = room-within (length buffer) .1 in
-          (omega arith, omega (arith, grown-by, whole-fits))
+          (omega arith, omega (arith, grown-by, front-fits))
 
       pub done : (v : State) → v ≡ grown kind w (end - at + size) → written n v exit ≡ heading w buffer more tag key good size
-      unfolding heading after
+      unfolding heading headed front
       done v ev =
           let b : exit ≡ put buffer (used w) front = ap (λ (o : Output). o .buffer) front-put in
-          rw (by-refusal, eq-eqb n 0 e, e, ev, grown-by, b)
+          rw (passed e, e, ev, grown-by, b)

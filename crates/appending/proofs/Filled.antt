@@ -3,21 +3,21 @@
 use Prim.Native.Nat.{ℕ, _+_, _-_, _≤_}
 use mathlib.Core.Path.{_≡_, refl, sym, ap, _∙_}
 use mathlib.Core.List.{List, [], _∷_, _++_, append-assoc}
-use mathlib.Core.Bool.{Bool, true, false, _&&_}
+use mathlib.Core.Bool.{Bool}
 use native.Mathlib.Omega.{arith}
-use lib.Dec.{leb, eqb}
+use lib.Dec.{eqb}
 use lib.ListN.{length, replicate, length-replicate}
-use borrow.Author.Tests.{leb-true, eqb-true, eqb-false}
-use Rattle.bson.specs.Answer.{Answer, gives, refuses, then, unless}
+use borrow.Author.Tests.{eqb-true, eqb-false}
+use Rattle.bson.specs.Answer.{Answer, gives, refuses, then}
 use Rattle.bson.specs.Grammar.{elementBytes}
 use Rattle.bson.specs.Output.{Output, output, put, putTexts, joined}
-use Rattle.bson.specs.Writer.{State, used, depth, Kind, nextDepth, keyIn, keyPasses, innermost, grown, Desk, desk, roomOf, appended, Written, written, leaves}
+use Rattle.bson.specs.Writer.{State, used, depth, Kind, keyIn, roomFor, grown, Desk, desk, roomOf, appended, Written, written, leaves}
 use Rattle.laws.proofs.AnswerLaws.{then-same}
 use Rattle.laws.proofs.Common.{split}
 use Rattle.laws.proofs.GrammarLaws.{length-element}
 use Rattle.laws.proofs.OutputLaws.{put-put, texts-fit}
 use Rattle.laws.proofs.WriterWords.{there, grown-used}
-use Rattle.laws.proofs.WriterLaws.{room-within, innermost-says, sizes, appended-says}
+use Rattle.laws.proofs.WriterLaws.{room-within, innermost-says, sizes, room-says, appended-says}
 use Rattle.laws.proofs.WriterRefusals.{appended-refused, accepted-from}
 use Rattle.appending.specs.Refusal.{appending}
 use Rattle.appending.specs.Heading.{headed, heading}
@@ -26,19 +26,11 @@ then-assoc : {A B C : Type 0} (x : Answer A) (f : A → Answer B) (g : B → Ans
 then-assoc (gives a) f g = refl
 then-assoc (refuses n p) f g = refl
 
--- tests alike in front of two answers, of which the one goes on with the other
-tests-alike : (a b c : Bool) (x y : Answer Desk) (f : Desk → Answer Desk) → (c ≡ true → x ≡ then y f)
-    → unless a 13 (unless b 15 (unless c 14 x)) ≡ then (unless a 13 (unless b 15 (unless c 14 y))) f
-tests-alike false b c x y f h = refl
-tests-alike true false c x y f h = refl
-tests-alike true true false x y f h = refl
-tests-alike true true true x y f h = h refl
-
 module _ (d : Desk) (more tag : ℕ) (key : List ℕ) (good : Bool) (value : List ℕ) where
   abbrev filled : Desk → Answer Desk
   filled e = gives (desk (e .state) (put (e .buffer) (used (e .state) - length value) value))
 
-  module _ (kind : Kind) (ei : innermost (d .state) (roomOf d) ≡ gives kind) where
+  module _ (kind : Kind) (er : roomFor (d .state) (roomOf d) more key good (length value) ≡ gives kind) where
     new : List ℕ
     new = elementBytes tag (keyIn kind key) value
 
@@ -49,36 +41,38 @@ module _ (d : Desk) (more tag : ℕ) (key : List ℕ) (good : Bool) (value : Lis
     unfolding front new elementBytes
     joins = ap (λ (l : List ℕ). tag ∷ l) (append-assoc (keyIn kind key) (0 ∷ []) value)
 
-    whole : used (d .state) + length new + (depth (d .state) + more) ≤ roomOf d
-        → put (put (d .buffer) (used (d .state)) front) (used (grown kind (d .state) (length new)) - length value) value
+    lengths : length front + length value ≡ length new
+    unfolding front new
+    lengths = omega (arith, length-element tag (keyIn kind key) value, length-element tag (keyIn kind key) [])
+
+    whole : put (put (d .buffer) (used (d .state)) front) (used (grown kind (d .state) (length new)) - length value) value
         ≡ put (d .buffer) (used (d .state)) new
     unfolding front new
-    whole h =
-        let s = sizes d kind (innermost-says d kind ei) in
+    whole =
+        let f = room-says (d .state) (roomOf d) more key good (length value) kind er in
+        let s = sizes d kind (innermost-says d kind (f .inner)) in
         let u = grown-used (d .state) kind (length new) (omega (arith, there (d .state) 1 (s .some))) in
-        let l : length new ≡ 2 + length (keyIn kind key) + length value = length-element tag (keyIn kind key) value in
-        let k : length front ≡ 2 + length (keyIn kind key) + 0 = length-element tag (keyIn kind key) [] in
+        let k = length-element tag (keyIn kind key) [] in
         let r = room-within (length (d .buffer)) .0 in
-        let e : used (grown kind (d .state) (length new)) - length value ≡ used (d .state) + length front = omega arith in
+        let e : used (grown kind (d .state) (length new)) - length value ≡ used (d .state) + length front = omega (arith, lengths) in
         ap (λ (i : ℕ). put (put (d .buffer) (used (d .state)) front) i value) e
-        ∙ put-put (d .buffer) (used (d .state)) front value (omega arith)
+        ∙ put-put (d .buffer) (used (d .state)) front value (omega (arith, f .fits))
         ∙ ap (put (d .buffer) (used (d .state))) joins
+
+    filled-is : filled (desk (grown kind (d .state) (length front + length value)) (put (d .buffer) (used (d .state)) front))
+        ≡ gives (desk (grown kind (d .state) (length new)) (put (d .buffer) (used (d .state)) new))
+    filled-is = rw lengths (ap (λ (b : List ℕ). gives (desk (grown kind (d .state) (length new)) b)) whole)
 
   -- the value behind the head is the element
   value-behind : appended d more tag key good value ≡ then (headed d more tag key good (length value)) filled
   unfolding appended headed new front
   value-behind =
       let w = d .state in
-      sym (then-assoc (innermost w (roomOf d)) (λ kind.
-      let n = 2 + length (keyIn kind key) + length value in
-      unless (leb (nextDepth w) 200) 13
-      (unless (keyPasses kind key && good) 15
-      (unless (leb (used w + n + (depth w + more)) (roomOf d)) 14
-      (gives (desk (grown kind w n) (put (d .buffer) (used w) (elementBytes tag (keyIn kind key) []))))))) filled
-      ∙ then-same (innermost w (roomOf d)) _ _ (λ kind ei.
-      let n = length-element tag (keyIn kind key) value in
-      rw (← n) (sym (tests-alike (leb (nextDepth w) 200) (keyPasses kind key && good) _ _ _ filled
-      (λ t. sym (ap (λ (b : List ℕ). gives (desk (grown kind w (length (elementBytes tag (keyIn kind key) value))) b)) (whole kind ei (leb-true _ _ t))))))))
+      let tests = roomFor w (roomOf d) more key good (length value) in
+      sym (then-assoc tests (λ kind.
+      let head = elementBytes tag (keyIn kind key) [] in
+      gives (desk (grown kind w (length head + length value)) (put (d .buffer) (used w) head))) filled
+      ∙ then-same tests _ _ filled-is)
 
 module _ (w : State) (buffer : List ℕ) (more tag : ℕ) (key : List ℕ) (good : Bool) (value : List ℕ) (size : ℕ) (es : size ≡ length value)
     (n : ℕ) (v : State) (b : List ℕ) (e : written n v b ≡ heading w buffer more tag key good size) where

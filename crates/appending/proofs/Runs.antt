@@ -8,10 +8,10 @@ use lib.Dec.{leb}
 use lib.ListN.{length, length-append}
 use borrow.Author.Tests.{leb-true, leb-false, le-leb, lt-leb}
 use Rattle.bson.specs.Output.{output, putTexts}
-use Rattle.bson.specs.Writer.{State, used, depth, keyIn, innermost, desk, room, written, leaves}
+use Rattle.bson.specs.Writer.{State, used, depth, keyIn, innermost, roomFor, desk, room, written, leaves}
 use Rattle.laws.proofs.AnswerLaws.{then-same}
 use Rattle.laws.proofs.Common.{split}
-use Rattle.laws.proofs.WriterLaws.{room-within}
+use Rattle.laws.proofs.WriterLaws.{room-within, room-says}
 use Rattle.appending.specs.Refusal.{appending}
 use Rattle.appending.specs.Heading.{headed, heading, bounded}
 use Rattle.appending.proofs.Filled.{head-refused, value-fits, value-put}
@@ -28,19 +28,29 @@ no-room : (u k n d m : ℕ) → m ≤ 2147483647 → 2147483647 < n → leb (u +
 no-room u k n d m h g = lt-leb (u + (2 + k + n) + d) m (omega arith)
 
 module _ (w : State) (buffer : List ℕ) (more tag : ℕ) (key : List ℕ) (good : Bool) where
-  -- a size that no room has is refused as its bound is
+  space : ℕ
+  space = room (length buffer)
+
+  -- sizes that no room has are refused alike
+  refused-alike : (m n : ℕ) → 2147483647 < m → 2147483647 < n → roomFor w space more key good m ≡ roomFor w space more key good n
+  unfolding roomFor space
+  refused-alike m n hm hn = then-same (innermost w space) _ _ λ kind ei.
+      let r = room-within (length buffer) .1 in
+      let k = length (keyIn kind key) in
+      let a = no-room (used w) k m (depth w + more) space r hm in
+      let b = no-room (used w) k n (depth w + more) space r hn in
+      rw (a, b)
+
+  -- so such a size is refused as its bound is
   bounded-heading : (size : ℕ) → heading w buffer more tag key good (bounded size) ≡ heading w buffer more tag key good size
-  unfolding heading headed
+  unfolding heading headed space
   bounded-heading size =
       split (leb size 2147483647) (λ t. rw (← within size (leb-true _ _ t)))
       (λ t. let h = leb-false size 2147483647 t in
-      rw (← over size h)
-      (ap (leaves (desk w buffer)) (then-same (innermost w (room (length buffer))) _ _ λ kind ei.
-      let r = room-within (length buffer) .1 in
-      let k = length (keyIn kind key) in
-      let a = no-room (used w) k 2147483648 (depth w + more) (room (length buffer)) r (omega arith) in
-      let b = no-room (used w) k size (depth w + more) (room (length buffer)) r h in
-      rw (a, b))))
+      rw (← over size h, refused-alike 2147483648 size (omega arith) h)
+      (ap (leaves (desk w buffer)) (then-same (roomFor w space more key good size) _ _ λ kind e.
+      let f = room-says w space more key good size kind e in
+      absurd (omega (arith, f .fits, room-within (length buffer) .1)))))
 
   module _ (p q r s : List ℕ) (size : ℕ) (es : size ≡ bounded (length p + (length q + (length r + length s))))
       (n : ℕ) (v : State) (b : List ℕ) (e : written n v b ≡ heading w buffer more tag key good size) where

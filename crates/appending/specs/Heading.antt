@@ -1,24 +1,21 @@
 -- The head of an element whose value comes behind it, as the inner functions answer (document 01, "Writer and joining").
 use Prim.Native.Nat.{ℕ, _+_}
 use mathlib.Core.List.{List, []}
-use mathlib.Core.Bool.{Bool, cond, _&&_}
+use mathlib.Core.Bool.{Bool, cond}
 use lib.Dec.{leb}
 use lib.ListN.{length}
-use Rattle.bson.specs.Answer.{Answer, gives, then, unless}
+use Rattle.bson.specs.Answer.{Answer, gives, then}
 use Rattle.bson.specs.Grammar.{elementBytes}
 use Rattle.bson.specs.Output.{put}
-use Rattle.bson.specs.Writer.{State, used, depth, nextDepth, keyIn, keyPasses, innermost, grown, Desk, desk, roomOf, Written, leaves}
+use Rattle.bson.specs.Writer.{State, used, keyIn, roomFor, grown, Desk, desk, roomOf, Written, leaves}
 
 -- an element with a value of so many bytes, of which only the head, its tag, its key and a zero, is put yet
 unfoldable pub headed : Desk → ℕ → ℕ → List ℕ → Bool → ℕ → Answer Desk
 headed d more tag key good size =
-    then (innermost (d .state) (roomOf d)) λ kind.
+    then (roomFor (d .state) (roomOf d) more key good size) λ kind.
     let w = d .state in
-    let n = 2 + length (keyIn kind key) + size in
-    unless (leb (nextDepth w) 200) 13
-    (unless (keyPasses kind key && good) 15
-    (unless (leb (used w + n + (depth w + more)) (roomOf d)) 14
-    (gives (desk (grown kind w n) (put (d .buffer) (used w) (elementBytes tag (keyIn kind key) []))))))
+    let head = elementBytes tag (keyIn kind key) [] in
+    gives (desk (grown kind w (length head + size)) (put (d .buffer) (used w) head))
 
 unfoldable pub heading : State → List ℕ → ℕ → ℕ → List ℕ → Bool → ℕ → Written
 heading w buffer more tag key good size = leaves (desk w buffer) (headed (desk w buffer) more tag key good size)

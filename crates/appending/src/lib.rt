@@ -8,7 +8,7 @@ ghost use Rattle.bson.specs.Answer.{gives};
 ghost use Rattle.bson.specs.Output as paper;
 ghost use Rattle.bson.specs.Writer as writer;
 ghost use Rattle.writer_state.specs.Said.{saidKind};
-ghost use Rattle.appending.specs.Refusal.{refusalOf, appending};
+ghost use Rattle.appending.specs.Refusal.{numberOf, appending};
 ghost use Rattle.appending.specs.Heading.{heading, bounded};
 use writer_state::Kind;
 use writer_state::Told;
@@ -86,8 +86,8 @@ fn refusal(
     good: bool,
     size: usize,
 ) -> u8
-    requires { ⌜ (0 < writer.depth (now words)) × (writer.used (now words) + writer.depth (now words) ≤ room) ⌝ }
-    ensures { λ n. ⌜ n ≡ refusalOf (now (words .entry)) room (saidKind kind) more (now (key .entry)) good size ⌝ }
+    requires { ⌜ writer.innermost (now words) room ≡ gives (saidKind kind) ⌝ }
+    ensures { λ n. ⌜ n ≡ numberOf (writer.roomFor (now (words .entry)) room more (now (key .entry)) good size) ⌝ }
 {
     if 200 < next_depth(words) {
         return 13;

@@ -119,17 +119,25 @@ unfoldable pub grown : Kind → State → ℕ → State
 grown inDocument w n = set w 0 (used w + n)
 grown (inArray count) w n = set (set w 0 (used w + n)) (markAt (depth w - 1)) (count + 1)
 
--- an element behind the used bytes, `more` documents then open besides: "order: 18, 13, 15, 14", the last "exactly when the bytes used, the new
--- bytes and one zero for each document then open exceed" the room
-unfoldable pub appended : Desk → ℕ → ℕ → List ℕ → Bool → List ℕ → Answer Desk
-appended d more tag key good value =
-    then (innermost (d .state) (roomOf d)) λ kind.
-    let w = d .state in
-    let new = elementBytes tag (keyIn kind key) value in
+-- an element with a value of so many bytes, `more` documents then open besides: "order: 18, 13, 15, 14", the last "exactly when the bytes used,
+-- the new bytes", which are its tag, its key, a zero and its value, "and one zero for each document then open exceed" the room; what is given is
+-- the kind of the innermost
+unfoldable pub roomFor : State → ℕ → ℕ → List ℕ → Bool → ℕ → Answer Kind
+roomFor w space more key good size =
+    then (innermost w space) λ kind.
+    let new = 2 + length (keyIn kind key) + size in
     unless (leb (nextDepth w) 200) 13
     (unless (keyPasses kind key && good) 15
-    (unless (leb (used w + length new + (depth w + more)) (roomOf d)) 14
-    (gives (desk (grown kind w (length new)) (put (d .buffer) (used w) new)))))
+    (unless (leb (used w + new + (depth w + more)) space) 14
+    (gives kind)))
+
+-- an element behind the used bytes
+unfoldable pub appended : Desk → ℕ → ℕ → List ℕ → Bool → List ℕ → Answer Desk
+appended d more tag key good value =
+    then (roomFor (d .state) (roomOf d) more key good (length value)) λ kind.
+    let w = d .state in
+    let new = elementBytes tag (keyIn kind key) value in
+    gives (desk (grown kind w (length new)) (put (d .buffer) (used w) new))
 
 -- one document more is open, whose length is the last four bytes
 unfoldable pub pushed : State → ℕ → State

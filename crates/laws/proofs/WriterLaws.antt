@@ -13,11 +13,11 @@ use Rattle.bson.specs.Answer.{Answer, gives}
 use Rattle.bson.specs.Output.{put}
 use Rattle.bson.specs.Grammar.{bytes32, row, Embedded, embedded, document, nestTag, elementBytes}
 use Rattle.bson.specs.Writer.{State, used, depth, start, mark, Kind, kindOf, markOf, passes, kindHolds, stands, stand, room, possible, Desk, desk, popped}
-use Rattle.bson.specs.Writer.{roomOf, innermost, nextDepth, keyIn, keyPasses, grown, appended, pushed, openedIn, openedTop, closed}
+use Rattle.bson.specs.Writer.{roomOf, innermost, nextDepth, keyIn, keyPasses, grown, roomFor, appended, pushed, openedIn, openedTop, closed}
 use Rattle.bson.specs.Writer.{Call, openTop, close, append, openNest, answer}
 use Rattle.laws.proofs.AnswerLaws.{gives-injective, unless-gives, then-gives}
 use Rattle.laws.proofs.Common.{split, both-hold}
-use Rattle.laws.proofs.GrammarLaws.{length-bytes32}
+use Rattle.laws.proofs.GrammarLaws.{length-bytes32, length-element}
 use Rattle.laws.proofs.OutputLaws.{length-put, drop-put}
 use Rattle.laws.proofs.WriterWords.{grown-words, grown-used, pushed-used, popped-used}
 
@@ -112,6 +112,30 @@ sizes d kind i =
       counted = subst (λ (k : Answer Kind). passes (kindHolds (used w)) k ≡ true) (i .kinded) y;
     }
 
+-- what the tests in front of an element say
+pub record Room (w : State) (space more : ℕ) (key : List ℕ) (good : Bool) (size : ℕ) (kind : Kind) : Type 0 where
+  pub inner : innermost w space ≡ gives kind
+  pub low : nextDepth w ≤ 200
+  pub keyed : keyPasses kind key ≡ true
+  pub valued : good ≡ true
+  pub fits : used w + (2 + length (keyIn kind key) + size) + (depth w + more) ≤ space
+
+module _ (w : State) (space more : ℕ) (key : List ℕ) (good : Bool) (size : ℕ) (kind : Kind) where
+  pub room-says : roomFor w space more key good size ≡ gives kind → Room w space more key good size kind
+  unfolding roomFor
+  room-says h =
+      let (k, i, h1) = then-gives (innermost w space) _ h in
+      let (a, h2) = unless-gives (leb (nextDepth w) 200) 13 _ h1 in
+      let (b, h3) = unless-gives (keyPasses k key && good) 15 _ h2 in
+      let (c, h4) = unless-gives (leb (used w + (2 + length (keyIn k key) + size) + (depth w + more)) space) 14 _ h3 in
+      let (p, g) = both-hold (keyPasses k key) good b in
+      subst (Room w space more key good size) (gives-injective h4)
+      (record { inner = i; low = leb-true _ _ a; keyed = p; valued = g; fits = leb-true _ _ c })
+
+  pub room-gives : Room w space more key good size kind → roomFor w space more key good size ≡ gives kind
+  unfolding roomFor
+  room-gives r = rw (r .inner, le-leb _ _ (r .low), r .keyed, r .valued, le-leb _ _ (r .fits))
+
 -- an element more
 abbrev pub taken : Desk → Kind → List ℕ → Desk
 taken d kind new = desk (grown kind (d .state) (length new)) (put (d .buffer) (used (d .state)) new)
@@ -130,17 +154,31 @@ module _ (d : Desk) (more tag : ℕ) (key : List ℕ) (good : Bool) (value : Lis
   pub appended-says : appended d more tag key good value ≡ gives e → Appended d more tag key good value e
   unfolding appended
   appended-says h =
-      let (kind, i, h1) = then-gives (innermost (d .state) (roomOf d)) _ h in
-      let new = elementBytes tag (keyIn kind key) value in
-      let (a, h2) = unless-gives (leb (nextDepth (d .state)) 200) 13 _ h1 in
-      let (b, h3) = unless-gives (keyPasses kind key && good) 15 _ h2 in
-      let (c, h4) = unless-gives (leb (used (d .state) + length new + (depth (d .state) + more)) (roomOf d)) 14 _ h3 in
-      let (k, g) = both-hold (keyPasses kind key) good b in
-      record { kind = kind; inner = i; low = leb-true _ _ a; keyed = k; valued = g; fits = leb-true _ _ c; is = sym (gives-injective h4) }
+      let (kind, f, h1) = then-gives (roomFor (d .state) (roomOf d) more key good (length value)) _ h in
+      let r = room-says (d .state) (roomOf d) more key good (length value) kind f in
+      let l = length-element tag (keyIn kind key) value in
+      record {
+        kind = kind;
+        inner = r .inner;
+        low = r .low;
+        keyed = r .keyed;
+        valued = r .valued;
+        fits = omega (arith, r .fits, l);
+        is = sym (gives-injective h1);
+      }
 
   pub appended-gives : Appended d more tag key good value e → appended d more tag key good value ≡ gives e
   unfolding appended
-  appended-gives a = rw (a .inner, le-leb _ _ (a .low), a .keyed, a .valued, le-leb _ _ (a .fits)) (ap gives (sym (a .is)))
+  appended-gives a =
+      let l = length-element tag (keyIn (a .kind) key) value in
+      let r = room-gives (d .state) (roomOf d) more key good (length value) (a .kind) (record {
+        inner = a .inner;
+        low = a .low;
+        keyed = a .keyed;
+        valued = a .valued;
+        fits = omega (arith, a .fits, l);
+      }) in
+      rw r (ap gives (sym (a .is)))
 
 -- an accepted opening: its element, and one document more
 pub record Opened (d : Desk) (n : Embedded) (key : List ℕ) (e : Desk) : Type 0 where

@@ -9,9 +9,9 @@ use lib.ListN.{length}
 use borrow.Author.Tests.{eqb-true}
 use Rattle.bson.specs.Answer.{Answer, gives, refuses}
 use Rattle.bson.specs.Bytes.{natural}
-use Rattle.bson.specs.Grammar.{bytes32, row, embedded, nestTag, elementBytes}
+use Rattle.bson.specs.Grammar.{bytes32, row, embedded, nestTag}
 use Rattle.bson.specs.Writer.{State, used, depth, mark, kindOf, possible, Desk, desk, roomOf, innermost, nextDepth, keyIn}
-use Rattle.bson.specs.Writer.{keyPasses, appended, openedIn, openedTop, closed, Call, openTop, close, append, openNest, answer, leaves, performed}
+use Rattle.bson.specs.Writer.{keyPasses, roomFor, appended, openedIn, openedTop, closed, Call, openTop, close, append, openNest, answer, leaves, performed}
 use Rattle.laws.proofs.AnswerLaws.{oneOf, RefusesIn, given, then-in, unless-in, cond-in, refused-in}
 use Rattle.laws.proofs.Common.{split}
 
@@ -31,14 +31,21 @@ module _ {ms : List ℕ} (e18 : oneOf ms 18 ≡ true) where
 abbrev refusals : List ℕ
 refusals = 13 ∷ 14 ∷ 15 ∷ 18 ∷ []
 
+room-in : (w : State) (space more : ℕ) (key : List ℕ) (good : Bool) (size : ℕ) → RefusesIn refusals (roomFor w space more key good size)
+unfolding roomFor
+room-in w space more key good size =
+    then-in (innermost-in refl w space) λ kind q.
+    unless-in (leb (nextDepth w) 200) 13 refl
+    (unless-in (keyPasses kind key && good) 15 refl
+    (unless-in (leb (used w + (2 + length (keyIn kind key) + size) + (depth w + more)) space) 14 refl given))
+
+pub room-refused : (w : State) (space more : ℕ) (key : List ℕ) (good : Bool) (size n p : ℕ)
+    → roomFor w space more key good size ≡ refuses n p → oneOf (13 ∷ 14 ∷ 15 ∷ 18 ∷ []) n ≡ true
+room-refused w space more key good size n p = refused-in (room-in w space more key good size)
+
 appended-in : (d : Desk) (more tag : ℕ) (key : List ℕ) (good : Bool) (value : List ℕ) → RefusesIn refusals (appended d more tag key good value)
 unfolding appended
-appended-in d more tag key good value =
-    then-in (innermost-in refl (d .state) (roomOf d)) λ kind q.
-    let new = elementBytes tag (keyIn kind key) value in
-    unless-in (leb (nextDepth (d .state)) 200) 13 refl
-    (unless-in (keyPasses kind key && good) 15 refl
-    (unless-in (leb (used (d .state) + length new + (depth (d .state) + more)) (roomOf d)) 14 refl given))
+appended-in d more tag key good value = then-in (room-in (d .state) (roomOf d) more key good (length value)) (λ kind q. given)
 
 pub appended-refused : (d : Desk) (more tag : ℕ) (key : List ℕ) (good : Bool) (value : List ℕ) (n p : ℕ)
     → appended d more tag key good value ≡ refuses n p → oneOf (13 ∷ 14 ∷ 15 ∷ 18 ∷ []) n ≡ true

@@ -1,4 +1,5 @@
 -- `appending::head` meets its contract: refused as the innermost is, or put in it. Assumes nothing.
+use Rattle.bson.specs.Writer.{roomFor}
 use Rattle.laws.proofs.AnswerLaws.{answered}
 use Rattle.writer_state.specs.Said.{said}
 use Rattle.appending.specs.Heading.{headed, heading}
@@ -29,7 +30,7 @@ returns : tie.Need-returns
 returns c = c .before .before .head-in .ensures
 
 returns-2 : tie.Need-returns-2
-unfolding heading headed
+unfolding heading headed roomFor
 returns-2 c =
     let i = c .before .before .before in
     let e = answered said (i .innermost .ensures) (c .before .number .given .1) in

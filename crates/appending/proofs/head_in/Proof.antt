@@ -1,13 +1,12 @@
 -- `appending::head_in` meets its contract: refused by the number, or the head as it is put. Assumes nothing.
 use native.Mathlib.Omega.{arith}
-use Rattle.appending.proofs.Element.{left-open, few, grows, refused, done}
+use Rattle.appending.proofs.Cascade.{left-open}
+use Rattle.appending.proofs.Element.{few, grows, refused, done}
 use Rattle.appending.proofs.head_in.Statement.{statement}
 use Rattle.appending.proofs.head_in.Tie as tie
 
 refusal-requires : tie.Need-refusal-requires
-refusal-requires c κs =
-    let s = c .before .before .before in
-    left-open _ (s .args .out .now) _ _ (s .pre .0) (s .pre .1)
+refusal-requires c κs = c .before .before .before .pre .1
 
 used-requires : tie.Need-used-requires
 used-requires c κs = tt
@@ -42,7 +41,7 @@ grow-requires c κs =
     (u .used .ensures .0) _ _
     (c .before .before .before .put-head .ensures) .1 in
     let k = few _ (s .args .out .now) _ _ (s .pre .0) (s .pre .1) in
-    ((g, left-open _ (s .args .out .now) _ _ (s .pre .0) (s .pre .1) .0, k .0), k .1)
+    ((g, left-open _ _ _ (s .pre .1) .0, k .0), k .1)
 
 same-length : tie.Need-same-length
 same-length c = c .before .before .before .before .put-head .kept .0
