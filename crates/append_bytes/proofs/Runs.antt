@@ -10,7 +10,7 @@ use Rattle.bson.specs.Grammar.{bytes32, stringBytes, binaryBytes}
 use Rattle.bson.specs.Writer.{State, Written}
 use Rattle.laws.proofs.Common.{rest-part}
 use Rattle.laws.proofs.GrammarLaws.{length-bytes32}
-use Rattle.appending.specs.Refusal.{appending}
+use Rattle.appending.specs.Element.{appending}
 
 pub text-runs : (text behind size : List ℕ) → size ≡ bytes32 (length text + 1) → size ++ (text ++ (0 ∷ behind)) ≡ stringBytes text ++ behind
 unfolding stringBytes bytes32

@@ -4,7 +4,7 @@ ghost use Rattle.bson.specs.Grammar as grammar;
 ghost use Rattle.bson.specs.Utf8.{utf8};
 ghost use Rattle.bson.specs.Value as value;
 ghost use Rattle.bson.specs.Writer as writer;
-ghost use Rattle.appending.specs.Refusal.{appending};
+ghost use Rattle.appending.specs.Element.{appending};
 
 // Appends a text, with its length and its zero.
 fn append_text(out: &mut [u8], words: &mut [u32; 406], tag: u8, key: &[u8], text: &[u8]) -> u8

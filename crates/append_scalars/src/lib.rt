@@ -5,7 +5,7 @@ ghost use mathlib.Core.List.{[], _++_};
 ghost use Rattle.bson.specs.Grammar as grammar;
 ghost use Rattle.bson.specs.Value as value;
 ghost use Rattle.bson.specs.Writer as writer;
-ghost use Rattle.appending.specs.Refusal.{appending};
+ghost use Rattle.appending.specs.Element.{appending};
 
 // Appends two numbers of four bytes.
 fn append_words(

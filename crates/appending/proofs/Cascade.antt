@@ -12,7 +12,7 @@ use Rattle.laws.proofs.Common.{split}
 use Rattle.laws.proofs.WriterLaws.{possible-says}
 use Rattle.bson.specs.Answer.{gives, unless}
 use Rattle.bson.specs.Writer.{State, used, depth, Kind, possible, innermost, nextDepth, keyIn, keyPasses, roomFor}
-use Rattle.appending.specs.Refusal.{numberOf}
+use Rattle.appending.specs.Element.{numberOf}
 
 -- the room's test on what is left of it
 left-fits : (room u d n m : ℕ) → u + d ≤ room → leb (n + m) (room - (u + d)) ≡ leb (u + n + (d + m)) room

@@ -15,8 +15,7 @@ use Rattle.laws.proofs.GrammarLaws.{length-element}
 use Rattle.laws.proofs.OutputLaws.{texts-fit}
 use Rattle.laws.proofs.WriterLaws.{room-within, innermost-says, Sizes, sizes, room-says}
 use Rattle.laws.proofs.WriterRefusals.{room-refused}
-use Rattle.appending.specs.Refusal.{numberOf}
-use Rattle.appending.specs.Heading.{headed, heading}
+use Rattle.appending.specs.Element.{numberOf, headed, heading}
 
 -- the texts of a head are its bytes
 abbrev pub texts : ℕ → List ℕ → List (List ℕ)

@@ -11,7 +11,7 @@ use borrow.Author.Tests.{eqb-true, eqb-false}
 use Rattle.bson.specs.Answer.{Answer, gives, refuses, then}
 use Rattle.bson.specs.Grammar.{elementBytes}
 use Rattle.bson.specs.Output.{Output, output, put, putTexts, joined}
-use Rattle.bson.specs.Writer.{State, used, depth, Kind, keyIn, roomFor, grown, Desk, desk, roomOf, appended, Written, written, leaves}
+use Rattle.bson.specs.Writer.{State, used, Kind, keyIn, roomFor, grown, Desk, desk, roomOf, appended, Written, written, leaves}
 use Rattle.laws.proofs.AnswerLaws.{then-same}
 use Rattle.laws.proofs.Common.{split}
 use Rattle.laws.proofs.GrammarLaws.{length-element}
@@ -19,8 +19,7 @@ use Rattle.laws.proofs.OutputLaws.{put-put, texts-fit}
 use Rattle.laws.proofs.WriterWords.{there, grown-used}
 use Rattle.laws.proofs.WriterLaws.{room-within, innermost-says, sizes, room-says, appended-says}
 use Rattle.laws.proofs.WriterRefusals.{appended-refused, accepted-from}
-use Rattle.appending.specs.Refusal.{appending}
-use Rattle.appending.specs.Heading.{headed, heading}
+use Rattle.appending.specs.Element.{appending, headed, heading}
 
 then-assoc : {A B C : Type 0} (x : Answer A) (f : A → Answer B) (g : B → Answer C) → then (then x f) g ≡ then x (λ a. then (f a) g)
 then-assoc (gives a) f g = refl

@@ -12,8 +12,7 @@ use Rattle.bson.specs.Writer.{State, used, depth, keyIn, innermost, roomFor, de
 use Rattle.laws.proofs.AnswerLaws.{then-same}
 use Rattle.laws.proofs.Common.{split}
 use Rattle.laws.proofs.WriterLaws.{room-within, room-says}
-use Rattle.appending.specs.Refusal.{appending}
-use Rattle.appending.specs.Heading.{headed, heading, bounded}
+use Rattle.appending.specs.Element.{appending, headed, heading, bounded}
 use Rattle.appending.proofs.Filled.{head-refused, value-fits, value-put}
 
 pub within : (n : ℕ) → n ≤ 2147483647 → n ≡ bounded n

@@ -7,7 +7,7 @@ use lib.ListN.{length}
 use Rattle.bson.specs.Grammar.{bytes32}
 use Rattle.bson.specs.Writer.{State, Written}
 use Rattle.laws.proofs.GrammarLaws.{length-bytes32}
-use Rattle.appending.specs.Refusal.{appending}
+use Rattle.appending.specs.Element.{appending}
 
 module _ (w : State) (buffer : List ℕ) (more tag : ℕ) (key : List ℕ) {x : Written} {u v : List ℕ} where
   pub valued : (good : Bool) → x ≡ appending w buffer more tag key good u → u ≡ v → x ≡ appending w buffer more tag key good v

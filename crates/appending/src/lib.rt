@@ -8,8 +8,7 @@ ghost use Rattle.bson.specs.Answer.{gives};
 ghost use Rattle.bson.specs.Output as paper;
 ghost use Rattle.bson.specs.Writer as writer;
 ghost use Rattle.writer_state.specs.Said.{saidKind};
-ghost use Rattle.appending.specs.Refusal.{numberOf, appending};
-ghost use Rattle.appending.specs.Heading.{heading, bounded};
+ghost use Rattle.appending.specs.Element.{numberOf, appending, heading, bounded};
 use writer_state::Kind;
 use writer_state::Told;
 

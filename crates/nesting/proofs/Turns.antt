@@ -17,7 +17,7 @@ use Rattle.laws.proofs.OutputLaws.{text-fits}
 use Rattle.laws.proofs.WriterWords.{grown-depth}
 use Rattle.laws.proofs.WriterLaws.{room-within, innermost-says, Sizes, sizes, Appended, appended-says}
 use Rattle.laws.proofs.WriterRefusals.{appended-refused, accepted-from}
-use Rattle.appending.specs.Refusal.{appending}
+use Rattle.appending.specs.Element.{appending}
 use Rattle.nesting.specs.Opened.{openedAs, pushedAt}
 
 -- behind an element that was appended, or refused

@@ -4,7 +4,7 @@ use native.Mathlib.Omega.{arith}
 use borrow.Author.Needs.{needs}
 use Rattle.bson.specs.Writer.{answer, performed}
 use Rattle.bson.specs.Grammar.{row}
-use Rattle.appending.specs.Refusal.{appending}
+use Rattle.appending.specs.Element.{appending}
 use Rattle.appending.proofs.Valued.{four, valued}
 use Rattle.append_bytes.proofs.Runs.{with-inner-length, with-one-length}
 use Rattle.append_bytes.proofs.append_binary.Statement.{statement}

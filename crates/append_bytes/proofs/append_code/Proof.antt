@@ -1,7 +1,7 @@
 -- `append_bytes::append_code` meets its contract: a text by its tag. Assumes nothing.
 use Rattle.bson.specs.Writer.{answer, performed}
 use Rattle.bson.specs.Grammar.{row}
-use Rattle.appending.specs.Refusal.{appending}
+use Rattle.appending.specs.Element.{appending}
 use Rattle.append_bytes.proofs.append_code.Statement.{statement}
 use Rattle.append_bytes.proofs.append_code.Tie as tie
 

@@ -1,7 +1,7 @@
 -- `append_bytes::append_dbpointer` meets its contract: the namespace is a text, and the id is behind it. Assumes nothing.
 use Rattle.bson.specs.Writer.{answer, performed}
 use Rattle.bson.specs.Grammar.{row}
-use Rattle.appending.specs.Refusal.{appending}
+use Rattle.appending.specs.Element.{appending}
 use Rattle.appending.proofs.Valued.{tested}
 use Rattle.append_bytes.proofs.Runs.{text-runs}
 use borrow.Author.Needs.{needs}

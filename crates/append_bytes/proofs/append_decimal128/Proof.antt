@@ -3,7 +3,7 @@ use mathlib.Core.Path.{refl}
 use mathlib.Core.List.{append-nil}
 use Rattle.bson.specs.Writer.{answer, performed}
 use Rattle.bson.specs.Grammar.{row}
-use Rattle.appending.specs.Refusal.{appending}
+use Rattle.appending.specs.Element.{appending}
 use Rattle.appending.proofs.Valued.{valued}
 use Rattle.append_bytes.proofs.append_decimal128.Statement.{statement}
 use Rattle.append_bytes.proofs.append_decimal128.Tie as tie

@@ -2,7 +2,7 @@
 use mathlib.Core.Path.{refl}
 use Rattle.bson.specs.Writer.{answer, performed}
 use Rattle.bson.specs.Grammar.{row}
-use Rattle.appending.specs.Refusal.{appending}
+use Rattle.appending.specs.Element.{appending}
 use Rattle.appending.proofs.Valued.{tested}
 use Rattle.append_bytes.proofs.Runs.{both}
 use Rattle.append_bytes.proofs.append_regex.Statement.{statement}

@@ -4,7 +4,7 @@ use mathlib.Core.List.{[], _∷_}
 use mathlib.Core.Path.{refl, ap}
 use Rattle.bson.specs.Writer.{answer, performed}
 use Rattle.bson.specs.Grammar.{row}
-use Rattle.appending.specs.Refusal.{appending}
+use Rattle.appending.specs.Element.{appending}
 use Rattle.appending.proofs.Filled.{head-refused, head-ready, value-put}
 use Rattle.encode.proofs.Basic.{boolean-byte}
 use borrow.Author.Needs.{needs}

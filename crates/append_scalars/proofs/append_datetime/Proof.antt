@@ -3,7 +3,7 @@ use mathlib.Core.Path.{ap}
 use mir.Syntax.{w64}
 use Rattle.bson.specs.Writer.{answer, performed}
 use Rattle.bson.specs.Grammar.{row, bytes64, unsigned}
-use Rattle.appending.specs.Refusal.{appending}
+use Rattle.appending.specs.Element.{appending}
 use Rattle.appending.proofs.Valued.{valued}
 use Rattle.encode.proofs.Basic.{passed}
 use Rattle.append_scalars.proofs.append_datetime.Statement.{statement}

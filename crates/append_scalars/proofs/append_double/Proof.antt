@@ -1,7 +1,7 @@
 -- `append_scalars::append_double` meets its contract: the bits are its eight bytes. Assumes nothing.
 use Rattle.bson.specs.Writer.{answer, performed}
 use Rattle.bson.specs.Grammar.{row}
-use Rattle.appending.specs.Refusal.{appending}
+use Rattle.appending.specs.Element.{appending}
 use Rattle.append_scalars.proofs.append_double.Statement.{statement}
 use Rattle.append_scalars.proofs.append_double.Tie as tie
 

@@ -6,7 +6,7 @@ use mir.Syntax.{w32}
 use Rattle.bson.specs.Writer.{answer, performed}
 use Rattle.bson.specs.Grammar.{row, bytes32, unsigned}
 use Rattle.laws.proofs.GrammarLaws.{length-bytes32}
-use Rattle.appending.specs.Refusal.{appending}
+use Rattle.appending.specs.Element.{appending}
 use Rattle.appending.proofs.Filled.{head-refused, head-ready, value-put}
 use Rattle.encode.proofs.Basic.{passed}
 use Rattle.append_scalars.proofs.Words.{word}

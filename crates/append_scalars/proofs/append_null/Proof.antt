@@ -1,7 +1,7 @@
 -- `append_scalars::append_null` meets its contract: a tag and a key alone. Assumes nothing.
 use Rattle.bson.specs.Writer.{answer, performed}
 use Rattle.bson.specs.Grammar.{row}
-use Rattle.appending.specs.Refusal.{appending}
+use Rattle.appending.specs.Element.{appending}
 use Rattle.append_scalars.proofs.append_null.Statement.{statement}
 use Rattle.append_scalars.proofs.append_null.Tie as tie
 

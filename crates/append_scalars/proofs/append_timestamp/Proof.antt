@@ -1,7 +1,7 @@
 -- `append_scalars::append_timestamp` meets its contract: increment, then seconds. Assumes nothing.
 use Rattle.bson.specs.Writer.{answer, performed}
 use Rattle.bson.specs.Grammar.{row}
-use Rattle.appending.specs.Refusal.{appending}
+use Rattle.appending.specs.Element.{appending}
 use Rattle.append_scalars.proofs.append_timestamp.Statement.{statement}
 use Rattle.append_scalars.proofs.append_timestamp.Tie as tie
 

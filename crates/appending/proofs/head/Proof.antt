@@ -2,7 +2,7 @@
 use Rattle.bson.specs.Writer.{roomFor}
 use Rattle.laws.proofs.AnswerLaws.{answered}
 use Rattle.writer_state.specs.Said.{said}
-use Rattle.appending.specs.Heading.{headed, heading}
+use Rattle.appending.specs.Element.{headed, heading}
 use Rattle.appending.proofs.head.Statement.{statement}
 use Rattle.appending.proofs.head.Tie as tie
 
