@@ -1,5 +1,6 @@
-// A part of a slice, as an offset and a size, and the length of what lies in front of one (document 01, "What must change shape").
+// A part of a slice, as an offset and a size, a byte of it, and a length of what lies in it (document 01, "What must change shape").
 ghost use mathlib.Core.Path.{_≡_};
+ghost use lib.ListN.{getD};
 ghost use Rattle.bson.specs.Bytes.{bytes};
 ghost use Rattle.part.specs.Said.{saidPart};
 
@@ -28,4 +29,14 @@ pub fn bytes_of<'a>(s: &'a [u8], part: Part) -> &'a [u8]
         return rest;
     }
     &rest[..size]
+}
+
+// Byte k, or 0 where there is none.
+pub fn byte_or_zero(s: &[u8], k: usize) -> u8
+    ensures { λ r. ⌜ r ≡ getD (now (s .entry)) k 0 ⌝ }
+{
+    if k < s.len() {
+        return s[k];
+    }
+    0
 }

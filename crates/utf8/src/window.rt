@@ -1,6 +1,5 @@
 // Whether bytes are UTF-8 (RFC 3629), by comparisons: each byte is judged by the three before it, so that sixteen are judged at a time.
 ghost use mathlib.Core.Path.{_≡_};
-ghost use lib.ListN.{getD};
 ghost use Rattle.bson.specs.Utf8.{utf8};
 ghost use Rattle.utf8.specs.Window.{stray};
 
@@ -18,31 +17,21 @@ fn is_stray(b: u8, p: u8, q: u8, o: u8) -> bool
     (tail != asked) | (after_e | (after_f | never))
 }
 
-// Byte k, or 0 where there is none.
-fn byte_or_zero(s: &[u8], k: usize) -> u8
-    ensures { λ r. ⌜ r ≡ getD (now (s .entry)) k 0 ⌝ }
-{
-    if k < s.len() {
-        return s[k];
-    }
-    0
-}
-
 // Whether s is UTF-8. The loop has no way out, so that it is vectorised; a zero behind s is stray exactly where a character is not whole.
 pub fn by_window(s: &[u8]) -> bool
     ensures { λ r. ⌜ r ≡ utf8 (now (s .entry)) ⌝ }
 {
-    let a = byte_or_zero(s, 0);
-    let b = byte_or_zero(s, 1);
-    let c = byte_or_zero(s, 2);
+    let a = part::byte_or_zero(s, 0);
+    let b = part::byte_or_zero(s, 1);
+    let c = part::byte_or_zero(s, 2);
     let mut any = is_stray(a, 0, 0, 0) | is_stray(b, a, 0, 0) | is_stray(c, b, a, 0);
     let mut j = 3;
     while j < s.len() {
         any = any | is_stray(s[j], s[j - 1], s[j - 2], s[j - 3]);
         j += 1;
     }
-    let x = byte_or_zero(s, j - 1);
-    let y = byte_or_zero(s, j - 2);
-    let z = byte_or_zero(s, j - 3);
+    let x = part::byte_or_zero(s, j - 1);
+    let y = part::byte_or_zero(s, j - 2);
+    let z = part::byte_or_zero(s, j - 3);
     !(any | is_stray(0, x, y, z))
 }

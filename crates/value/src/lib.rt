@@ -3,7 +3,7 @@ mod inside;
 
 ghost use Prim.Native.Nat.{_+_, _<_, _≤_};
 ghost use mathlib.Core.Path.{_≡_};
-ghost use lib.ListN.{length, getD};
+ghost use lib.ListN.{length};
 ghost use Rattle.bson.specs.Answer.{then};
 ghost use Rattle.bson.specs.Bytes.{le64, i32, i64, trim as trimmed};
 ghost use Rattle.bson.specs.Tags.{typeOf, DbPointer};
@@ -153,18 +153,12 @@ fn db_pointer(s: &[u8], framed: Part) -> Parsed
     Parsed::Is(Value::DbPointer { namespace, id })
 }
 
-fn byte_at(v: &[u8], i: usize) -> u8
-    ensures { λ r. ⌜ r ≡ getD (now (v .entry)) i 0 ⌝ }
-{
-    if i < v.len() { v[i] } else { 0 }
-}
-
 // Binary data, behind its length and subtype; under subtype 2 behind a second length, else 12.
 fn binary(v: &[u8], framed: Part) -> Parsed
     requires { ⌜ framed .offset < 9223372036854775808 ⌝ }
     ensures { λ r. ⌜ said r ≡ paper.binaryValue (now (v .entry)) (saidPart framed) ⌝ }
 {
-    let subtype = byte_at(v, 4);
+    let subtype = part::byte_or_zero(v, 4);
     if subtype != 2 {
         let data = trim(framed, 5, 0);
         return Parsed::Is(Value::Binary { subtype, data });

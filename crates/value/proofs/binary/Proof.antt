@@ -5,15 +5,15 @@ use Rattle.bson.specs.Value.{binaryValue}
 use Rattle.value.proofs.binary.Statement.{statement}
 use Rattle.value.proofs.binary.Tie as tie
 
-byte-at-requires : tie.Need-byte-at-requires
-byte-at-requires c κs = search needs
+byte-or-zero-requires : tie.Need-byte-or-zero-requires
+byte-or-zero-requires c κs = search needs
 
 trim-requires : tie.Need-trim-requires
 trim-requires c κs = search needs
 
 returns : tie.Need-returns
 unfolding binaryValue
-returns c = rw (c .trim .ensures, ← c .before .before .byte-at .ensures, ne-eqb _ _ (c .before .if1 .taken))
+returns c = rw (c .trim .ensures, ← c .before .before .byte-or-zero .ensures, ne-eqb _ _ (c .before .if1 .taken))
 
 is-old-binary-requires : tie.Need-is-old-binary-requires
 is-old-binary-requires c κs = search needs
@@ -25,19 +25,19 @@ returns-2 : tie.Need-returns-2
 unfolding binaryValue
 returns-2 c =
     let d = c .before .before in
-    rw (c .trim2 .ensures, ← d .before .before .byte-at .ensures, d .before .if1 .left, ← d .is-old-binary .ensures, c .before .if2 .taken)
+    rw (c .trim2 .ensures, ← d .before .before .byte-or-zero .ensures, d .before .if1 .left, ← d .is-old-binary .ensures, c .before .if2 .taken)
 
 returns-3 : tie.Need-returns-3
 unfolding binaryValue
 returns-3 c =
     let d = c .before in
-    rw (← d .before .before .byte-at .ensures, d .before .if1 .left, ← d .is-old-binary .ensures, c .if2 .left)
+    rw (← d .before .before .byte-or-zero .ensures, d .before .if1 .left, ← d .is-old-binary .ensures, c .if2 .left)
 
 pub binary-spec : {M : Type 1} → statement M
 binary-spec =
     tie.close
     (tie.spec
-    byte-at-requires
+    byte-or-zero-requires
     trim-requires
     returns
     is-old-binary-requires

@@ -1,10 +1,10 @@
--- `utf8::window::byte_or_zero` meets its contract: behind the end a list's default stands. Assumes nothing.
+-- `part::byte_or_zero` meets its contract: behind the end a list's default stands. Assumes nothing.
 use mathlib.Core.Path.{sym}
 use native.Mathlib.Omega.{arith}
 use borrow.Author.Needs.{needs}
 use lib.ListN.{List·getD-eq-default}
-use Rattle.utf8.proofs.window.byte_or_zero.Statement.{statement}
-use Rattle.utf8.proofs.window.byte_or_zero.Tie as tie
+use Rattle.part.proofs.byte_or_zero.Statement.{statement}
+use Rattle.part.proofs.byte_or_zero.Tie as tie
 
 shared-slice-read-result : tie.Need-shared-slice-read-result
 shared-slice-read-result c = search needs
