@@ -5,9 +5,10 @@ ghost use Rattle.bson.specs.Utf8.{utf8};
 ghost use Rattle.bson.specs.Value as value;
 ghost use Rattle.bson.specs.Writer as writer;
 ghost use Rattle.appending.specs.Element.{appending};
+use writer_state::Words;
 
 // Appends a text, with its length and its zero.
-fn append_text(out: &mut [u8], words: &mut [u32; 406], tag: u8, key: &[u8], text: &[u8]) -> u8
+fn append_text(out: &mut [u8], words: &mut Words, tag: u8, key: &[u8], text: &[u8]) -> u8
     ensures { λ r. ⌜ writer.written r (now (words .exit)) (now (out .exit))
         ≡ appending (now (words .entry)) (now (out .entry)) 0 tag (now (key .entry)) (utf8 (now (text .entry)))
         (grammar.stringBytes (now (text .entry))) ⌝ }
@@ -26,33 +27,33 @@ fn append_text(out: &mut [u8], words: &mut [u32; 406], tag: u8, key: &[u8], text
 }
 
 // Appends a string.
-pub fn append_string(out: &mut [u8], words: &mut [u32; 406], key: &[u8], text: &[u8]) -> u8
+pub fn append_string(out: &mut [u8], words: &mut Words, key: &[u8], text: &[u8]) -> u8
     ensures { λ r. ⌜ writer.written r (now (words .exit)) (now (out .exit))
         ≡ writer.performed (writer.append (now (key .entry)) (value.string (now (text .entry)))) (now (words .entry)) (now (out .entry)) ⌝ }
 {
-    append_text(out, words, 0x02, key, text)
+    append_text(out, words, tags::STRING, key, text)
 }
 
 // Appends JavaScript code.
-pub fn append_code(out: &mut [u8], words: &mut [u32; 406], key: &[u8], text: &[u8]) -> u8
+pub fn append_code(out: &mut [u8], words: &mut Words, key: &[u8], text: &[u8]) -> u8
     ensures { λ r. ⌜ writer.written r (now (words .exit)) (now (out .exit))
         ≡ writer.performed (writer.append (now (key .entry)) (value.code (now (text .entry)))) (now (words .entry)) (now (out .entry)) ⌝ }
 {
-    append_text(out, words, 0x0D, key, text)
+    append_text(out, words, tags::CODE, key, text)
 }
 
 // Appends a symbol.
-pub fn append_symbol(out: &mut [u8], words: &mut [u32; 406], key: &[u8], text: &[u8]) -> u8
+pub fn append_symbol(out: &mut [u8], words: &mut Words, key: &[u8], text: &[u8]) -> u8
     ensures { λ r. ⌜ writer.written r (now (words .exit)) (now (out .exit))
         ≡ writer.performed (writer.append (now (key .entry)) (value.symbol (now (text .entry)))) (now (words .entry)) (now (out .entry)) ⌝ }
 {
-    append_text(out, words, 0x0E, key, text)
+    append_text(out, words, tags::SYMBOL, key, text)
 }
 
 // Appends a DBPointer: a namespace and an id.
 pub fn append_dbpointer(
     out: &mut [u8],
-    words: &mut [u32; 406],
+    words: &mut Words,
     key: &[u8],
     namespace: &[u8],
     id: &[u8; 12],
@@ -63,13 +64,24 @@ pub fn append_dbpointer(
 {
     let good = utf8::is_utf8(namespace);
     let size = encode::bytes32(namespace.len() + 1);
-    appending::append(out, words, 0, 0x0C, key, good, &size, namespace, b"\0", id)
+    appending::append(
+        out,
+        words,
+        0,
+        tags::DB_POINTER,
+        key,
+        good,
+        &size,
+        namespace,
+        b"\0",
+        id,
+    )
 }
 
 // Appends binary data; under subtype 2 with its inner length.
 pub fn append_binary(
     out: &mut [u8],
-    words: &mut [u32; 406],
+    words: &mut Words,
     key: &[u8],
     subtype: u8,
     contents: &[u8],
@@ -85,7 +97,7 @@ pub fn append_binary(
             out,
             words,
             0,
-            0x05,
+            tags::BINARY,
             key,
             true,
             &outer,
@@ -95,13 +107,24 @@ pub fn append_binary(
         );
     }
     let kind = [subtype];
-    appending::append(out, words, 0, 0x05, key, true, &size, &kind, contents, b"")
+    appending::append(
+        out,
+        words,
+        0,
+        tags::BINARY,
+        key,
+        true,
+        &size,
+        &kind,
+        contents,
+        b"",
+    )
 }
 
 // Appends a regular expression: a pattern and options.
 pub fn append_regex(
     out: &mut [u8],
-    words: &mut [u32; 406],
+    words: &mut Words,
     key: &[u8],
     pattern: &[u8],
     options: &[u8],
@@ -115,7 +138,7 @@ pub fn append_regex(
         out,
         words,
         0,
-        0x0B,
+        tags::REGULAR_EXPRESSION,
         key,
         good,
         pattern,
@@ -126,17 +149,28 @@ pub fn append_regex(
 }
 
 // Appends an ObjectId.
-pub fn append_object_id(out: &mut [u8], words: &mut [u32; 406], key: &[u8], id: &[u8; 12]) -> u8
+pub fn append_object_id(out: &mut [u8], words: &mut Words, key: &[u8], id: &[u8; 12]) -> u8
     ensures { λ r. ⌜ writer.written r (now (words .exit)) (now (out .exit))
         ≡ writer.performed (writer.append (now (key .entry)) (value.objectId (now (id .entry)))) (now (words .entry)) (now (out .entry)) ⌝ }
 {
-    appending::append(out, words, 0, 0x07, key, true, id, b"", b"", b"")
+    appending::append(out, words, 0, tags::OBJECT_ID, key, true, id, b"", b"", b"")
 }
 
 // Appends a decimal128 by its bits.
-pub fn append_decimal128(out: &mut [u8], words: &mut [u32; 406], key: &[u8], bits: &[u8; 16]) -> u8
+pub fn append_decimal128(out: &mut [u8], words: &mut Words, key: &[u8], bits: &[u8; 16]) -> u8
     ensures { λ r. ⌜ writer.written r (now (words .exit)) (now (out .exit))
         ≡ writer.performed (writer.append (now (key .entry)) (value.decimal128 (now (bits .entry)))) (now (words .entry)) (now (out .entry)) ⌝ }
 {
-    appending::append(out, words, 0, 0x13, key, true, bits, b"", b"", b"")
+    appending::append(
+        out,
+        words,
+        0,
+        tags::DECIMAL128,
+        key,
+        true,
+        bits,
+        b"",
+        b"",
+        b"",
+    )
 }

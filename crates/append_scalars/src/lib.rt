@@ -6,11 +6,12 @@ ghost use Rattle.bson.specs.Grammar as grammar;
 ghost use Rattle.bson.specs.Value as value;
 ghost use Rattle.bson.specs.Writer as writer;
 ghost use Rattle.appending.specs.Element.{appending};
+use writer_state::Words;
 
 // Appends two numbers of four bytes.
 fn append_words(
     out: &mut [u8],
-    words: &mut [u32; 406],
+    words: &mut Words,
     tag: u8,
     key: &[u8],
     first: usize,
@@ -31,7 +32,7 @@ fn append_words(
 }
 
 // Appends a number of eight bytes.
-fn append_eight(out: &mut [u8], words: &mut [u32; 406], tag: u8, key: &[u8], n: u64) -> u8
+fn append_eight(out: &mut [u8], words: &mut Words, tag: u8, key: &[u8], n: u64) -> u8
     ensures { λ r. ⌜ writer.written r (now (words .exit)) (now (out .exit))
         ≡ appending (now (words .entry)) (now (out .entry)) 0 tag (now (key .entry)) true (grammar.bytes64 n) ⌝ }
 {
@@ -39,7 +40,7 @@ fn append_eight(out: &mut [u8], words: &mut [u32; 406], tag: u8, key: &[u8], n: 
 }
 
 // Appends what has no bytes.
-fn append_nothing(out: &mut [u8], words: &mut [u32; 406], tag: u8, key: &[u8]) -> u8
+fn append_nothing(out: &mut [u8], words: &mut Words, tag: u8, key: &[u8]) -> u8
     ensures { λ r. ⌜ writer.written r (now (words .exit)) (now (out .exit))
         ≡ appending (now (words .entry)) (now (out .entry)) 0 tag (now (key .entry)) true [] ⌝ }
 {
@@ -47,19 +48,19 @@ fn append_nothing(out: &mut [u8], words: &mut [u32; 406], tag: u8, key: &[u8]) -
 }
 
 // Appends a double by its bits.
-pub fn append_double(out: &mut [u8], words: &mut [u32; 406], key: &[u8], bits: u64) -> u8
+pub fn append_double(out: &mut [u8], words: &mut Words, key: &[u8], bits: u64) -> u8
     ensures { λ r. ⌜ writer.written r (now (words .exit)) (now (out .exit))
         ≡ writer.performed (writer.append (now (key .entry)) (value.double bits)) (now (words .entry)) (now (out .entry)) ⌝ }
 {
-    append_eight(out, words, 0x01, key, bits)
+    append_eight(out, words, tags::DOUBLE, key, bits)
 }
 
 // Appends a boolean.
-pub fn append_bool(out: &mut [u8], words: &mut [u32; 406], key: &[u8], b: bool) -> u8
+pub fn append_bool(out: &mut [u8], words: &mut Words, key: &[u8], b: bool) -> u8
     ensures { λ r. ⌜ writer.written r (now (words .exit)) (now (out .exit))
         ≡ writer.performed (writer.append (now (key .entry)) (value.boolean b)) (now (words .entry)) (now (out .entry)) ⌝ }
 {
-    let r = appending::head(out, words, 0, 0x08, key, true, 1);
+    let r = appending::head(out, words, 0, tags::BOOLEAN, key, true, 1);
     if r == 0 {
         let at = writer_state::used(words) - 1;
         let byte = b as u8;
@@ -70,11 +71,11 @@ pub fn append_bool(out: &mut [u8], words: &mut [u32; 406], key: &[u8], b: bool) 
 }
 
 // Appends an int32.
-pub fn append_int32(out: &mut [u8], words: &mut [u32; 406], key: &[u8], n: i32) -> u8
+pub fn append_int32(out: &mut [u8], words: &mut Words, key: &[u8], n: i32) -> u8
     ensures { λ r. ⌜ writer.written r (now (words .exit)) (now (out .exit))
         ≡ writer.performed (writer.append (now (key .entry)) (value.int32 n)) (now (words .entry)) (now (out .entry)) ⌝ }
 {
-    let r = appending::head(out, words, 0, 0x10, key, true, 4);
+    let r = appending::head(out, words, 0, tags::INT32, key, true, 4);
     if r == 0 {
         let at = writer_state::used(words) - 4;
         encode::put_bytes32(out, at, encode::bits32(n) as usize);
@@ -83,25 +84,25 @@ pub fn append_int32(out: &mut [u8], words: &mut [u32; 406], key: &[u8], n: i32) 
 }
 
 // Appends an int64.
-pub fn append_int64(out: &mut [u8], words: &mut [u32; 406], key: &[u8], n: i64) -> u8
+pub fn append_int64(out: &mut [u8], words: &mut Words, key: &[u8], n: i64) -> u8
     ensures { λ r. ⌜ writer.written r (now (words .exit)) (now (out .exit))
         ≡ writer.performed (writer.append (now (key .entry)) (value.int64 n)) (now (words .entry)) (now (out .entry)) ⌝ }
 {
-    append_eight(out, words, 0x12, key, encode::bits64(n))
+    append_eight(out, words, tags::INT64, key, encode::bits64(n))
 }
 
 // Appends a datetime, in milliseconds since 1970.
-pub fn append_datetime(out: &mut [u8], words: &mut [u32; 406], key: &[u8], n: i64) -> u8
+pub fn append_datetime(out: &mut [u8], words: &mut Words, key: &[u8], n: i64) -> u8
     ensures { λ r. ⌜ writer.written r (now (words .exit)) (now (out .exit))
         ≡ writer.performed (writer.append (now (key .entry)) (value.dateTime n)) (now (words .entry)) (now (out .entry)) ⌝ }
 {
-    append_eight(out, words, 0x09, key, encode::bits64(n))
+    append_eight(out, words, tags::DATE_TIME, key, encode::bits64(n))
 }
 
 // Appends a timestamp: the increment, then the seconds.
 pub fn append_timestamp(
     out: &mut [u8],
-    words: &mut [u32; 406],
+    words: &mut Words,
     key: &[u8],
     increment: u32,
     seconds: u32,
@@ -109,37 +110,44 @@ pub fn append_timestamp(
     ensures { λ r. ⌜ writer.written r (now (words .exit)) (now (out .exit))
         ≡ writer.performed (writer.append (now (key .entry)) (value.timestamp increment seconds)) (now (words .entry)) (now (out .entry)) ⌝ }
 {
-    append_words(out, words, 0x11, key, increment as usize, seconds as usize)
+    append_words(
+        out,
+        words,
+        tags::TIMESTAMP,
+        key,
+        increment as usize,
+        seconds as usize,
+    )
 }
 
 // Appends a null.
-pub fn append_null(out: &mut [u8], words: &mut [u32; 406], key: &[u8]) -> u8
+pub fn append_null(out: &mut [u8], words: &mut Words, key: &[u8]) -> u8
     ensures { λ r. ⌜ writer.written r (now (words .exit)) (now (out .exit))
         ≡ writer.performed (writer.append (now (key .entry)) value.null) (now (words .entry)) (now (out .entry)) ⌝ }
 {
-    append_nothing(out, words, 0x0A, key)
+    append_nothing(out, words, tags::NULL, key)
 }
 
 // Appends an undefined.
-pub fn append_undefined(out: &mut [u8], words: &mut [u32; 406], key: &[u8]) -> u8
+pub fn append_undefined(out: &mut [u8], words: &mut Words, key: &[u8]) -> u8
     ensures { λ r. ⌜ writer.written r (now (words .exit)) (now (out .exit))
         ≡ writer.performed (writer.append (now (key .entry)) value.undefined) (now (words .entry)) (now (out .entry)) ⌝ }
 {
-    append_nothing(out, words, 0x06, key)
+    append_nothing(out, words, tags::UNDEFINED, key)
 }
 
 // Appends a min key.
-pub fn append_min_key(out: &mut [u8], words: &mut [u32; 406], key: &[u8]) -> u8
+pub fn append_min_key(out: &mut [u8], words: &mut Words, key: &[u8]) -> u8
     ensures { λ r. ⌜ writer.written r (now (words .exit)) (now (out .exit))
         ≡ writer.performed (writer.append (now (key .entry)) value.minKey) (now (words .entry)) (now (out .entry)) ⌝ }
 {
-    append_nothing(out, words, 0xFF, key)
+    append_nothing(out, words, tags::MIN_KEY, key)
 }
 
 // Appends a max key.
-pub fn append_max_key(out: &mut [u8], words: &mut [u32; 406], key: &[u8]) -> u8
+pub fn append_max_key(out: &mut [u8], words: &mut Words, key: &[u8]) -> u8
     ensures { λ r. ⌜ writer.written r (now (words .exit)) (now (out .exit))
         ≡ writer.performed (writer.append (now (key .entry)) value.maxKey) (now (words .entry)) (now (out .entry)) ⌝ }
 {
-    append_nothing(out, words, 0x7F, key)
+    append_nothing(out, words, tags::MAX_KEY, key)
 }

@@ -11,6 +11,7 @@ ghost use Rattle.writer_state.specs.Said.{saidKind};
 ghost use Rattle.appending.specs.Element.{numberOf, appending, heading, bounded};
 use writer_state::Kind;
 use writer_state::Told;
+use writer_state::Words;
 
 // How many bytes the key has that is written.
 fn key_size(kind: Kind, key: &[u8]) -> usize
@@ -55,7 +56,7 @@ fn put_head(out: &mut [u8], at: usize, tag: u8, kind: Kind, key: &[u8]) -> usize
 }
 
 // One element more, of so many bytes.
-fn grow(words: &mut [u32; 406], kind: Kind, size: usize)
+fn grow(words: &mut Words, kind: Kind, size: usize)
     requires { ⌜ (writer.used (now words) + size < 2 ^ 32) × (0 < writer.depth (now words)) × (writer.depth (now words) ≤ 202) ⌝ }
     requires { ⌜ writer.kindHolds 2147483647 (saidKind kind) ≡ true ⌝ }
     ensures { λ _. ⌜ now (words .exit) ≡ writer.grown (saidKind kind) (now (words .entry)) size ⌝ }
@@ -68,7 +69,7 @@ fn grow(words: &mut [u32; 406], kind: Kind, size: usize)
 }
 
 // How deep the next value lies.
-fn next_depth(words: &[u32; 406]) -> usize
+fn next_depth(words: &Words) -> usize
     requires { ⌜ 0 < writer.depth (now words) ⌝ }
     ensures { λ r. ⌜ r ≡ writer.nextDepth (now (words .entry)) ⌝ }
 {
@@ -77,7 +78,7 @@ fn next_depth(words: &[u32; 406]) -> usize
 
 // The refusal of an element in the innermost, of this kind, with a value of so many bytes, or 0.
 fn refusal(
-    words: &[u32; 406],
+    words: &Words,
     room: usize,
     kind: Kind,
     more: u8,
@@ -88,7 +89,7 @@ fn refusal(
     requires { ⌜ writer.innermost (now words) room ≡ gives (saidKind kind) ⌝ }
     ensures { λ n. ⌜ n ≡ numberOf (writer.roomFor (now (words .entry)) room more (now (key .entry)) good size) ⌝ }
 {
-    if 200 < next_depth(words) {
+    if bounds::MAX_DEPTH < next_depth(words) {
         return 13;
     }
     if key_passes(kind, key) & good {
@@ -104,7 +105,7 @@ fn refusal(
 // Puts a head in the innermost, of this kind.
 fn head_in(
     out: &mut [u8],
-    words: &mut [u32; 406],
+    words: &mut Words,
     room: usize,
     kind: Kind,
     more: u8,
@@ -130,7 +131,7 @@ fn head_in(
 // are then open besides. The number of the refusal, or 0.
 pub fn head(
     out: &mut [u8],
-    words: &mut [u32; 406],
+    words: &mut Words,
     more: u8,
     tag: u8,
     key: &[u8],
@@ -147,25 +148,28 @@ pub fn head(
     }
 }
 
+// One byte more than can ever fit.
+const TOO_LONG: usize = bounds::MAX_LEN + 1;
+
 // How many bytes four runs have, or one more than can ever fit.
 fn total(p: usize, q: usize, r: usize, s: usize) -> usize
     ensures { λ n. ⌜ n ≡ bounded (p + (q + (r + s))) ⌝ }
 {
-    if 2147483647 < p {
-        return 2147483648;
+    if bounds::MAX_LEN < p {
+        return TOO_LONG;
     }
-    if 2147483647 < q {
-        return 2147483648;
+    if bounds::MAX_LEN < q {
+        return TOO_LONG;
     }
-    if 2147483647 < r {
-        return 2147483648;
+    if bounds::MAX_LEN < r {
+        return TOO_LONG;
     }
-    if 2147483647 < s {
-        return 2147483648;
+    if bounds::MAX_LEN < s {
+        return TOO_LONG;
     }
     let n = p + (q + (r + s));
-    if 2147483647 < n {
-        return 2147483648;
+    if bounds::MAX_LEN < n {
+        return TOO_LONG;
     }
     n
 }
@@ -184,7 +188,7 @@ fn put_runs(out: &mut [u8], at: usize, p: &[u8], q: &[u8], r: &[u8], s: &[u8]) -
 // Appends an element, its value in four runs; `more` documents are then open besides. The number of the refusal, or 0.
 pub fn append(
     out: &mut [u8],
-    words: &mut [u32; 406],
+    words: &mut Words,
     more: u8,
     tag: u8,
     key: &[u8],

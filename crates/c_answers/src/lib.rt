@@ -16,6 +16,7 @@ use join::Joined;
 use reading::Reading;
 use value::Value;
 use whole::Verdict;
+use writer_state::Words;
 
 #[repr(C)]
 pub struct VerdictNumbers {
@@ -204,10 +205,7 @@ fn no_element(number: u8, place: usize, next: Cursor) -> StepNumbers
 }
 
 // A value's tag, and what it has as a number.
-struct Tagged {
-    tag: u8,
-    bits: u64,
-}
+struct Tagged(u8, u64);
 
 // Seconds in the upper half, the increment in the lower.
 fn of_halves(increment: u32, seconds: u32) -> u64
@@ -229,54 +227,39 @@ fn of_int32(n: i32) -> u64
 }
 
 fn tag_and_bits(value: Value) -> Tagged
-    ensures { λ r. ⌜ (r .tag ≡ tagOf (saidValue value)) × (r .bits ≡ bitsOf (saidValue value)) ⌝ }
+    ensures { λ r. ⌜ (r .0 ≡ tagOf (saidValue value)) × (r .1 ≡ bitsOf (saidValue value)) ⌝ }
 {
     match value {
-        Value::Double(bits) => Tagged { tag: 0x01, bits },
-        Value::String(_) => Tagged { tag: 0x02, bits: 0 },
-        Value::Document(_) => Tagged { tag: 0x03, bits: 0 },
-        Value::Array(_) => Tagged { tag: 0x04, bits: 0 },
-        Value::Binary { subtype, data: _ } => Tagged {
-            tag: 0x05,
-            bits: subtype as u64,
-        },
-        Value::Undefined => Tagged { tag: 0x06, bits: 0 },
-        Value::ObjectId(_) => Tagged { tag: 0x07, bits: 0 },
-        Value::Boolean(b) => Tagged {
-            tag: 0x08,
-            bits: of_bool(b),
-        },
-        Value::DateTime(n) => Tagged {
-            tag: 0x09,
-            bits: encode::bits64(n),
-        },
-        Value::Null => Tagged { tag: 0x0A, bits: 0 },
+        Value::Double(bits) => Tagged(tags::DOUBLE, bits),
+        Value::String(_) => Tagged(tags::STRING, 0),
+        Value::Document(_) => Tagged(tags::DOCUMENT, 0),
+        Value::Array(_) => Tagged(tags::ARRAY, 0),
+        Value::Binary { subtype, data: _ } => Tagged(tags::BINARY, subtype as u64),
+        Value::Undefined => Tagged(tags::UNDEFINED, 0),
+        Value::ObjectId(_) => Tagged(tags::OBJECT_ID, 0),
+        Value::Boolean(b) => Tagged(tags::BOOLEAN, of_bool(b)),
+        Value::DateTime(n) => Tagged(tags::DATE_TIME, encode::bits64(n)),
+        Value::Null => Tagged(tags::NULL, 0),
         Value::RegularExpression {
             pattern: _,
             options: _,
-        } => Tagged { tag: 0x0B, bits: 0 },
+        } => Tagged(tags::REGULAR_EXPRESSION, 0),
         Value::DbPointer {
             namespace: _,
             id: _,
-        } => Tagged { tag: 0x0C, bits: 0 },
-        Value::JavaScriptCode(_) => Tagged { tag: 0x0D, bits: 0 },
-        Value::Symbol(_) => Tagged { tag: 0x0E, bits: 0 },
-        Value::JavaScriptCodeWithScope { code: _, scope: _ } => Tagged { tag: 0x0F, bits: 0 },
-        Value::Int32(n) => Tagged {
-            tag: 0x10,
-            bits: of_int32(n),
-        },
-        Value::Timestamp { increment, seconds } => Tagged {
-            tag: 0x11,
-            bits: of_halves(increment, seconds),
-        },
-        Value::Int64(n) => Tagged {
-            tag: 0x12,
-            bits: encode::bits64(n),
-        },
-        Value::Decimal128(_) => Tagged { tag: 0x13, bits: 0 },
-        Value::MinKey => Tagged { tag: 0xFF, bits: 0 },
-        Value::MaxKey => Tagged { tag: 0x7F, bits: 0 },
+        } => Tagged(tags::DB_POINTER, 0),
+        Value::JavaScriptCode(_) => Tagged(tags::CODE, 0),
+        Value::Symbol(_) => Tagged(tags::SYMBOL, 0),
+        Value::JavaScriptCodeWithScope { code: _, scope: _ } => Tagged(tags::CODE_WITH_SCOPE, 0),
+        Value::Int32(n) => Tagged(tags::INT32, of_int32(n)),
+        Value::Timestamp { increment, seconds } => Tagged(
+            tags::TIMESTAMP,
+            of_halves(increment, seconds),
+        ),
+        Value::Int64(n) => Tagged(tags::INT64, encode::bits64(n)),
+        Value::Decimal128(_) => Tagged(tags::DECIMAL128, 0),
+        Value::MinKey => Tagged(tags::MIN_KEY, 0),
+        Value::MaxKey => Tagged(tags::MAX_KEY, 0),
     }
 }
 
@@ -302,8 +285,8 @@ pub fn of_reading(r: Reading) -> ValueNumbers
             ValueNumbers {
                 number: 0,
                 place: 0,
-                tag: kind.tag as u64,
-                bits: kind.bits,
+                tag: kind.0 as u64,
+                bits: kind.1,
                 offset: first.offset as u64,
                 size: first.size as u64,
                 offset2: second.offset as u64,
@@ -314,7 +297,7 @@ pub fn of_reading(r: Reading) -> ValueNumbers
 }
 
 // The number that a writer's call returned, and the bytes used in the state that it left.
-pub fn of_written(number: u8, words: &[u32; 406]) -> WrittenNumbers
+pub fn of_written(number: u8, words: &Words) -> WrittenNumbers
     ensures { λ r. ⌜ r ≡ writtenBy number (now (words .entry)) ⌝ }
 {
     if number == 0 {

@@ -5,10 +5,11 @@ pub mod scalars;
 ghost use mathlib.Core.Path.{_≡_};
 ghost use Rattle.bson.specs.Grammar as grammar;
 ghost use Rattle.bson.specs.Writer as writer;
+use writer_state::Words;
 
 // The state: how many bytes are used, how many documents are open, and two words for each.
 pub struct DocWriter {
-    pub words: [u32; 406],
+    pub words: Words,
 }
 
 // The number of the refusal, or 0, and the state afterwards.
@@ -21,7 +22,9 @@ pub struct Written {
 pub fn new() -> DocWriter
     ensures { λ r. ⌜ r .words ≡ writer.fresh ⌝ }
 {
-    DocWriter { words: [0; 406] }
+    DocWriter {
+        words: [0; writer_state::WORDS],
+    }
 }
 
 // Opens the top.

@@ -21,6 +21,7 @@ use c_answers::WrittenNumbers;
 use iter::Cursor;
 use iter::Element;
 use part::Part;
+use writer_state::Words;
 
 // The plain check.
 #[no_mangle]
@@ -168,7 +169,7 @@ pub extern "C" fn fringewell_join(first: &[u8], second: &[u8], out: &mut [u8]) -
 // The writer's state, which C lends: 406 words.
 #[repr(C)]
 pub struct Writer {
-    pub words: [u32; 406],
+    pub words: Words,
 }
 
 // A fresh state: nothing used, nothing open.
@@ -176,12 +177,14 @@ pub struct Writer {
 pub extern "C" fn fringewell_writer_new() -> Writer
     ensures { λ r. ⌜ r .words ≡ writer.fresh ⌝ }
 {
-    Writer { words: [0; 406] }
+    Writer {
+        words: [0; writer_state::WORDS],
+    }
 }
 
 // Opens the top.
 #[no_mangle]
-pub extern "C" fn fringewell_writer_open(words: &mut [u32; 406], out: &mut [u8]) -> WrittenNumbers
+pub extern "C" fn fringewell_writer_open(words: &mut Words, out: &mut [u8]) -> WrittenNumbers
     ensures { λ r. ⌜ leaves r (now (words .exit)) (now (out .exit))
         ≡ performs (writer.openTop) (now (words .entry)) (now (out .entry)) ⌝ }
 {
@@ -192,7 +195,7 @@ pub extern "C" fn fringewell_writer_open(words: &mut [u32; 406], out: &mut [u8])
 // Opens a document in the innermost.
 #[no_mangle]
 pub extern "C" fn fringewell_writer_open_document(
-    words: &mut [u32; 406],
+    words: &mut Words,
     out: &mut [u8],
     key: &[u8],
 ) -> WrittenNumbers
@@ -206,7 +209,7 @@ pub extern "C" fn fringewell_writer_open_document(
 // Opens an array in the innermost.
 #[no_mangle]
 pub extern "C" fn fringewell_writer_open_array(
-    words: &mut [u32; 406],
+    words: &mut Words,
     out: &mut [u8],
     key: &[u8],
 ) -> WrittenNumbers
@@ -219,7 +222,7 @@ pub extern "C" fn fringewell_writer_open_array(
 
 // Closes the innermost.
 #[no_mangle]
-pub extern "C" fn fringewell_writer_close(words: &mut [u32; 406], out: &mut [u8]) -> WrittenNumbers
+pub extern "C" fn fringewell_writer_close(words: &mut Words, out: &mut [u8]) -> WrittenNumbers
     ensures { λ r. ⌜ leaves r (now (words .exit)) (now (out .exit))
         ≡ performs (writer.close) (now (words .entry)) (now (out .entry)) ⌝ }
 {
@@ -230,7 +233,7 @@ pub extern "C" fn fringewell_writer_close(words: &mut [u32; 406], out: &mut [u8]
 // Appends a double by its bits.
 #[no_mangle]
 pub extern "C" fn fringewell_append_double(
-    words: &mut [u32; 406],
+    words: &mut Words,
     out: &mut [u8],
     key: &[u8],
     bits: u64,
@@ -245,7 +248,7 @@ pub extern "C" fn fringewell_append_double(
 // Appends a boolean.
 #[no_mangle]
 pub extern "C" fn fringewell_append_bool(
-    words: &mut [u32; 406],
+    words: &mut Words,
     out: &mut [u8],
     key: &[u8],
     b: bool,
@@ -260,7 +263,7 @@ pub extern "C" fn fringewell_append_bool(
 // Appends an int32.
 #[no_mangle]
 pub extern "C" fn fringewell_append_int32(
-    words: &mut [u32; 406],
+    words: &mut Words,
     out: &mut [u8],
     key: &[u8],
     n: i32,
@@ -275,7 +278,7 @@ pub extern "C" fn fringewell_append_int32(
 // Appends an int64.
 #[no_mangle]
 pub extern "C" fn fringewell_append_int64(
-    words: &mut [u32; 406],
+    words: &mut Words,
     out: &mut [u8],
     key: &[u8],
     n: i64,
@@ -290,7 +293,7 @@ pub extern "C" fn fringewell_append_int64(
 // Appends a datetime, in milliseconds since 1970.
 #[no_mangle]
 pub extern "C" fn fringewell_append_datetime(
-    words: &mut [u32; 406],
+    words: &mut Words,
     out: &mut [u8],
     key: &[u8],
     n: i64,
@@ -305,7 +308,7 @@ pub extern "C" fn fringewell_append_datetime(
 // Appends a timestamp.
 #[no_mangle]
 pub extern "C" fn fringewell_append_timestamp(
-    words: &mut [u32; 406],
+    words: &mut Words,
     out: &mut [u8],
     key: &[u8],
     increment: u32,
@@ -321,7 +324,7 @@ pub extern "C" fn fringewell_append_timestamp(
 // Appends a null.
 #[no_mangle]
 pub extern "C" fn fringewell_append_null(
-    words: &mut [u32; 406],
+    words: &mut Words,
     out: &mut [u8],
     key: &[u8],
 ) -> WrittenNumbers
@@ -335,7 +338,7 @@ pub extern "C" fn fringewell_append_null(
 // Appends an undefined.
 #[no_mangle]
 pub extern "C" fn fringewell_append_undefined(
-    words: &mut [u32; 406],
+    words: &mut Words,
     out: &mut [u8],
     key: &[u8],
 ) -> WrittenNumbers
@@ -349,7 +352,7 @@ pub extern "C" fn fringewell_append_undefined(
 // Appends a min key.
 #[no_mangle]
 pub extern "C" fn fringewell_append_min_key(
-    words: &mut [u32; 406],
+    words: &mut Words,
     out: &mut [u8],
     key: &[u8],
 ) -> WrittenNumbers
@@ -363,7 +366,7 @@ pub extern "C" fn fringewell_append_min_key(
 // Appends a max key.
 #[no_mangle]
 pub extern "C" fn fringewell_append_max_key(
-    words: &mut [u32; 406],
+    words: &mut Words,
     out: &mut [u8],
     key: &[u8],
 ) -> WrittenNumbers
@@ -377,7 +380,7 @@ pub extern "C" fn fringewell_append_max_key(
 // Appends a string.
 #[no_mangle]
 pub extern "C" fn fringewell_append_string(
-    words: &mut [u32; 406],
+    words: &mut Words,
     out: &mut [u8],
     key: &[u8],
     text: &[u8],
@@ -392,7 +395,7 @@ pub extern "C" fn fringewell_append_string(
 // Appends JavaScript code.
 #[no_mangle]
 pub extern "C" fn fringewell_append_code(
-    words: &mut [u32; 406],
+    words: &mut Words,
     out: &mut [u8],
     key: &[u8],
     text: &[u8],
@@ -407,7 +410,7 @@ pub extern "C" fn fringewell_append_code(
 // Appends a symbol.
 #[no_mangle]
 pub extern "C" fn fringewell_append_symbol(
-    words: &mut [u32; 406],
+    words: &mut Words,
     out: &mut [u8],
     key: &[u8],
     text: &[u8],
@@ -422,7 +425,7 @@ pub extern "C" fn fringewell_append_symbol(
 // Appends binary data.
 #[no_mangle]
 pub extern "C" fn fringewell_append_binary(
-    words: &mut [u32; 406],
+    words: &mut Words,
     out: &mut [u8],
     key: &[u8],
     subtype: u8,
@@ -438,7 +441,7 @@ pub extern "C" fn fringewell_append_binary(
 // Appends a regular expression.
 #[no_mangle]
 pub extern "C" fn fringewell_append_regex(
-    words: &mut [u32; 406],
+    words: &mut Words,
     out: &mut [u8],
     key: &[u8],
     pattern: &[u8],
@@ -454,7 +457,7 @@ pub extern "C" fn fringewell_append_regex(
 // Appends a DBPointer.
 #[no_mangle]
 pub extern "C" fn fringewell_append_dbpointer(
-    words: &mut [u32; 406],
+    words: &mut Words,
     out: &mut [u8],
     key: &[u8],
     namespace: &[u8],
@@ -470,7 +473,7 @@ pub extern "C" fn fringewell_append_dbpointer(
 // Appends an ObjectId.
 #[no_mangle]
 pub extern "C" fn fringewell_append_object_id(
-    words: &mut [u32; 406],
+    words: &mut Words,
     out: &mut [u8],
     key: &[u8],
     id: &[u8; 12],
@@ -485,7 +488,7 @@ pub extern "C" fn fringewell_append_object_id(
 // Appends a decimal128 by its bits.
 #[no_mangle]
 pub extern "C" fn fringewell_append_decimal128(
-    words: &mut [u32; 406],
+    words: &mut Words,
     out: &mut [u8],
     key: &[u8],
     bits: &[u8; 16],

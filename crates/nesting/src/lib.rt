@@ -9,9 +9,10 @@ ghost use Rattle.bson.specs.Output.{put};
 ghost use Rattle.bson.specs.Writer as writer;
 ghost use Rattle.nesting.specs.Opened.{openedAs, pushedAt};
 use writer_state::Told;
+use writer_state::Words;
 
 // One document more is open, that starts here.
-fn push(words: &mut [u32; 406], start: u32, mark: u32)
+fn push(words: &mut Words, start: u32, mark: u32)
     requires { ⌜ writer.depth (now words) < 202 ⌝ }
     ensures { λ _. ⌜ now (words .exit) ≡ pushedAt (now (words .entry)) start mark ⌝ }
 {
@@ -22,7 +23,7 @@ fn push(words: &mut [u32; 406], start: u32, mark: u32)
 }
 
 // Opens an element of this tag in the innermost, which its mark tells. The number of the refusal, or 0.
-fn open_in(out: &mut [u8], words: &mut [u32; 406], tag: u8, mark: u32, key: &[u8]) -> u8
+fn open_in(out: &mut [u8], words: &mut Words, tag: u8, mark: u32, key: &[u8]) -> u8
     ensures { λ n. ⌜ writer.written n (now (words .exit)) (now (out .exit))
         ≡ openedAs (now (words .entry)) (now (out .entry)) tag mark (now (key .entry)) ⌝ }
 {
@@ -36,23 +37,23 @@ fn open_in(out: &mut [u8], words: &mut [u32; 406], tag: u8, mark: u32, key: &[u8
 }
 
 // Opens a document in the innermost. The number of the refusal, or 0.
-pub fn open_document(out: &mut [u8], words: &mut [u32; 406], key: &[u8]) -> u8
+pub fn open_document(out: &mut [u8], words: &mut Words, key: &[u8]) -> u8
     ensures { λ n. ⌜ writer.written n (now (words .exit)) (now (out .exit))
         ≡ writer.performed (writer.openNest grammar.document (now (key .entry))) (now (words .entry)) (now (out .entry)) ⌝ }
 {
-    open_in(out, words, 0x03, 0xFFFF_FFFF, key)
+    open_in(out, words, tags::DOCUMENT, 0xFFFF_FFFF, key)
 }
 
 // Opens an array in the innermost. The number of the refusal, or 0.
-pub fn open_array(out: &mut [u8], words: &mut [u32; 406], key: &[u8]) -> u8
+pub fn open_array(out: &mut [u8], words: &mut Words, key: &[u8]) -> u8
     ensures { λ n. ⌜ writer.written n (now (words .exit)) (now (out .exit))
         ≡ writer.performed (writer.openNest grammar.array (now (key .entry))) (now (words .entry)) (now (out .entry)) ⌝ }
 {
-    open_in(out, words, 0x04, 0, key)
+    open_in(out, words, tags::ARRAY, 0, key)
 }
 
 // Opens the top. The number of the refusal, or 0.
-pub fn open_top(out: &mut [u8], words: &mut [u32; 406]) -> u8
+pub fn open_top(out: &mut [u8], words: &mut Words) -> u8
     ensures { λ n. ⌜ writer.written n (now (words .exit)) (now (out .exit))
         ≡ writer.performed writer.openTop (now (words .entry)) (now (out .entry)) ⌝ }
 {
@@ -80,7 +81,7 @@ fn put_length(out: &mut [u8], at: usize, n: usize)
 }
 
 // One document fewer is open, and its zero is used.
-fn pop(words: &mut [u32; 406])
+fn pop(words: &mut Words)
     requires { ⌜ (0 < writer.depth (now words)) × (writer.used (now words) < 2147483647) ⌝ }
     ensures { λ _. ⌜ now (words .exit) ≡ writer.popped (now (words .entry)) ⌝ }
 {
@@ -90,7 +91,7 @@ fn pop(words: &mut [u32; 406])
 }
 
 // Where the innermost starts.
-fn start_of(words: &[u32; 406]) -> usize
+fn start_of(words: &Words) -> usize
     requires { ⌜ (0 < writer.depth (now words)) × (writer.depth (now words) ≤ 202) ⌝ }
     ensures { λ r. ⌜ r ≡ writer.start (now (words .entry)) (writer.depth (now (words .entry)) - 1) ⌝ }
 {
@@ -108,7 +109,7 @@ fn seal(out: &mut [u8], used: usize, start: usize)
 }
 
 // Closes the innermost. The number of the refusal, or 0.
-pub fn close(out: &mut [u8], words: &mut [u32; 406]) -> u8
+pub fn close(out: &mut [u8], words: &mut Words) -> u8
     ensures { λ n. ⌜ writer.written n (now (words .exit)) (now (out .exit))
         ≡ writer.performed writer.close (now (words .entry)) (now (out .entry)) ⌝ }
 {

@@ -67,7 +67,7 @@ fn double_word(v: &[u8]) -> u64
 fn signed32(x: u32) -> i32
     ensures { λ r. ⌜ r ≡ signed 0x8000_0000 x ⌝ }
 {
-    if x < 2147483648 {
+    if x < bounds::NEGATIVE {
         x as i32
     } else {
         -1 - ((4294967295 - x) as i32)

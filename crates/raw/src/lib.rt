@@ -32,7 +32,7 @@ fn length_field(v: &[u8], present: usize, least: u32) -> Length
             if n < least {
                 return Length::Refused(8);
             }
-            if n < 2147483648 {
+            if n < bounds::NEGATIVE {
                 Length::Is(n as usize)
             } else {
                 Length::Refused(8)
@@ -171,7 +171,7 @@ pub fn admit(s: &[u8]) -> Length
             if s.len() < 5 {
                 return Length::Refused(1);
             }
-            if 2147483648 <= n {
+            if bounds::NEGATIVE <= n {
                 return Length::Refused(2);
             }
             if (n as usize) != s.len() {

@@ -4,6 +4,49 @@ ghost use Rattle.bson.specs.Tags.{sizedOf};
 ghost use Rattle.tags.specs.Said.{said};
 ghost use Rattle.tags.specs.Rows.{rowNumber};
 
+// The tags, by the names that the Rust gives its element types.
+pub const DOUBLE: u8 = 0x01;
+
+pub const STRING: u8 = 0x02;
+
+pub const DOCUMENT: u8 = 0x03;
+
+pub const ARRAY: u8 = 0x04;
+
+pub const BINARY: u8 = 0x05;
+
+pub const UNDEFINED: u8 = 0x06;
+
+pub const OBJECT_ID: u8 = 0x07;
+
+pub const BOOLEAN: u8 = 0x08;
+
+pub const DATE_TIME: u8 = 0x09;
+
+pub const NULL: u8 = 0x0A;
+
+pub const REGULAR_EXPRESSION: u8 = 0x0B;
+
+pub const DB_POINTER: u8 = 0x0C;
+
+pub const CODE: u8 = 0x0D;
+
+pub const SYMBOL: u8 = 0x0E;
+
+pub const CODE_WITH_SCOPE: u8 = 0x0F;
+
+pub const INT32: u8 = 0x10;
+
+pub const TIMESTAMP: u8 = 0x11;
+
+pub const INT64: u8 = 0x12;
+
+pub const DECIMAL128: u8 = 0x13;
+
+pub const MIN_KEY: u8 = 0xFF;
+
+pub const MAX_KEY: u8 = 0x7F;
+
 pub enum Kind {
     Fixed(usize),
     String,
@@ -57,10 +100,10 @@ fn row(tag: u8) -> usize
     if tag < 20 {
         return wide(tag) - 1;
     }
-    if tag == 0xFF {
+    if tag == MIN_KEY {
         return 19;
     }
-    if tag == 0x7F {
+    if tag == MAX_KEY {
         return 20;
     }
     21

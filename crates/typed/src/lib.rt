@@ -44,7 +44,7 @@ pub enum I64 {
 pub fn get_f64(s: &[u8], key: &[u8]) -> F64
     ensures { λ r. ⌜ saidF64 r ≡ typed (inFront 8 le64) (now (s .entry)) (now (key .entry)) 0x01 ⌝ }
 {
-    match document::get_with(s, key, 0x01) {
+    match document::get_with(s, key, tags::DOUBLE) {
         Found::Refused { number, place } => F64::Refused { number, place },
         Found::Is { element, value: _ } => {
             let place = element.place;
@@ -60,7 +60,7 @@ pub fn get_f64(s: &[u8], key: &[u8]) -> F64
 pub fn get_bool(s: &[u8], key: &[u8]) -> Bool
     ensures { λ r. ⌜ saidBool r ≡ typed bool (now (s .entry)) (now (key .entry)) 0x08 ⌝ }
 {
-    match document::get_with(s, key, 0x08) {
+    match document::get_with(s, key, tags::BOOLEAN) {
         Found::Refused { number, place } => Bool::Refused { number, place },
         Found::Is { element, value: _ } => {
             let place = element.place;
@@ -76,7 +76,7 @@ pub fn get_bool(s: &[u8], key: &[u8]) -> Bool
 pub fn get_timestamp(s: &[u8], key: &[u8]) -> Timestamp
     ensures { λ r. ⌜ saidTimestamp r ≡ typed timestampOf (now (s .entry)) (now (key .entry)) 0x11 ⌝ }
 {
-    match document::get_with(s, key, 0x11) {
+    match document::get_with(s, key, tags::TIMESTAMP) {
         Found::Refused { number, place } => Timestamp::Refused { number, place },
         Found::Is { element, value: _ } => {
             let place = element.place;
@@ -92,7 +92,7 @@ pub fn get_timestamp(s: &[u8], key: &[u8]) -> Timestamp
 pub fn get_i32(s: &[u8], key: &[u8]) -> I32
     ensures { λ r. ⌜ saidI32 r ≡ typed (inFront 4 i32) (now (s .entry)) (now (key .entry)) 0x10 ⌝ }
 {
-    match document::get_with(s, key, 0x10) {
+    match document::get_with(s, key, tags::INT32) {
         Found::Refused { number, place } => I32::Refused { number, place },
         Found::Is { element, value: _ } => {
             let place = element.place;
@@ -125,13 +125,13 @@ fn int64(s: &[u8], key: &[u8], tag: u8) -> I64
 pub fn get_i64(s: &[u8], key: &[u8]) -> I64
     ensures { λ r. ⌜ saidI64 r ≡ typed (inFront 8 i64) (now (s .entry)) (now (key .entry)) 0x12 ⌝ }
 {
-    int64(s, key, 0x12)
+    int64(s, key, tags::INT64)
 }
 
 pub fn get_datetime(s: &[u8], key: &[u8]) -> I64
     ensures { λ r. ⌜ saidI64 r ≡ typed (inFront 8 i64) (now (s .entry)) (now (key .entry)) 0x09 ⌝ }
 {
-    int64(s, key, 0x09)
+    int64(s, key, tags::DATE_TIME)
 }
 
 // Those that follow hand back a part of the document. The twin of each is `document::get_with` with the same tag; where that refuses, the
@@ -141,40 +141,40 @@ pub fn get_datetime(s: &[u8], key: &[u8]) -> I64
 pub fn get_str<'a, 'b>(s: &'a [u8], key: &'b [u8]) -> &'a [u8]
     ensures { λ r. ⌜ now r ≡ getPart (now (s .entry)) (now (key .entry)) 0x02 first ⌝ }
 {
-    document::get_part(s, key, 0x02, Which::First)
+    document::get_part(s, key, tags::STRING, Which::First)
 }
 
 // A document, whole.
 pub fn get_document<'a, 'b>(s: &'a [u8], key: &'b [u8]) -> &'a [u8]
     ensures { λ r. ⌜ now r ≡ getPart (now (s .entry)) (now (key .entry)) 0x03 first ⌝ }
 {
-    document::get_part(s, key, 0x03, Which::First)
+    document::get_part(s, key, tags::DOCUMENT, Which::First)
 }
 
 // An array, whole.
 pub fn get_array<'a, 'b>(s: &'a [u8], key: &'b [u8]) -> &'a [u8]
     ensures { λ r. ⌜ now r ≡ getPart (now (s .entry)) (now (key .entry)) 0x04 first ⌝ }
 {
-    document::get_part(s, key, 0x04, Which::First)
+    document::get_part(s, key, tags::ARRAY, Which::First)
 }
 
 // Binary data; the twin says the subtype.
 pub fn get_binary<'a, 'b>(s: &'a [u8], key: &'b [u8]) -> &'a [u8]
     ensures { λ r. ⌜ now r ≡ getPart (now (s .entry)) (now (key .entry)) 0x05 first ⌝ }
 {
-    document::get_part(s, key, 0x05, Which::First)
+    document::get_part(s, key, tags::BINARY, Which::First)
 }
 
 // Twelve bytes.
 pub fn get_object_id<'a, 'b>(s: &'a [u8], key: &'b [u8]) -> &'a [u8]
     ensures { λ r. ⌜ now r ≡ getPart (now (s .entry)) (now (key .entry)) 0x07 first ⌝ }
 {
-    document::get_part(s, key, 0x07, Which::First)
+    document::get_part(s, key, tags::OBJECT_ID, Which::First)
 }
 
 // The pattern, or the options, which are the second part.
 pub fn get_regex<'a, 'b>(s: &'a [u8], key: &'b [u8], which: Which) -> &'a [u8]
     ensures { λ r. ⌜ now r ≡ getPart (now (s .entry)) (now (key .entry)) 0x0B (saidWhich which) ⌝ }
 {
-    document::get_part(s, key, 0x0B, which)
+    document::get_part(s, key, tags::REGULAR_EXPRESSION, which)
 }

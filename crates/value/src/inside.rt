@@ -13,6 +13,9 @@ use num::Uint32;
 use part::Length;
 use part::Part;
 
+// Three lengths, the zero of an empty code and that of an empty document.
+const MIN_CODE_WITH_SCOPE_SIZE: usize = 14;
+
 pub fn is_text(s: &[u8], part: Part) -> bool
     ensures { λ r. ⌜ r ≡ utf8 (bytes (now (s .entry)) (saidPart part)) ⌝ }
 {
@@ -46,7 +49,7 @@ fn scope(v: &[u8], start: usize) -> Length
 pub fn code_len(v: &[u8]) -> Length
     ensures { λ r. ⌜ saidLength r ≡ codeSize (now (v .entry)) ⌝ }
 {
-    if v.len() < 14 {
+    if v.len() < MIN_CODE_WITH_SCOPE_SIZE {
         return Length::Refused(12);
     }
     match raw::read_len(&v[4..]) {

@@ -77,7 +77,7 @@ fn int64(v: &[u8], tag: u8) -> Parsed
     match num::i64_from_slice(v) {
         Int64::Refused(number) => Parsed::Refused(number),
         Int64::Is(n) => {
-            if tag == 0x09 {
+            if tag == tags::DATE_TIME {
                 Parsed::Is(Value::DateTime(n))
             } else {
                 Parsed::Is(Value::Int64(n))
@@ -127,10 +127,10 @@ fn text(s: &[u8], tag: u8, framed: Part) -> Parsed
     if !inside::is_text(s, text) {
         return Parsed::Refused(6);
     }
-    if tag == 0x0D {
+    if tag == tags::CODE {
         return Parsed::Is(Value::JavaScriptCode(text));
     }
-    if tag == 0x0E {
+    if tag == tags::SYMBOL {
         return Parsed::Is(Value::Symbol(text));
     }
     Parsed::Is(Value::String(text))
@@ -217,27 +217,27 @@ fn content(s: &[u8], tag: u8, framed: Part) -> Parsed
 {
     let v = part::bytes_of(s, framed);
     match tag {
-        0x01 => double(v),
-        0x02 => text(s, 0x02, framed),
-        0x03 => Parsed::Is(Value::Document(framed)),
-        0x04 => Parsed::Is(Value::Array(framed)),
-        0x05 => binary(v, framed),
-        0x06 => Parsed::Is(Value::Undefined),
-        0x07 => Parsed::Is(Value::ObjectId(framed)),
-        0x08 => boolean(v),
-        0x09 => int64(v, 0x09),
-        0x0A => Parsed::Is(Value::Null),
-        0x0B => regular_expression(v, framed.offset),
-        0x0C => db_pointer(s, framed),
-        0x0D => text(s, 0x0D, framed),
-        0x0E => text(s, 0x0E, framed),
-        0x0F => code_with_scope(v, framed),
-        0x10 => int32(v),
-        0x11 => timestamp(v),
-        0x12 => int64(v, 0x12),
-        0x13 => Parsed::Is(Value::Decimal128(framed)),
-        0x7F => Parsed::Is(Value::MaxKey),
-        0xFF => Parsed::Is(Value::MinKey),
+        tags::DOUBLE => double(v),
+        tags::STRING => text(s, tags::STRING, framed),
+        tags::DOCUMENT => Parsed::Is(Value::Document(framed)),
+        tags::ARRAY => Parsed::Is(Value::Array(framed)),
+        tags::BINARY => binary(v, framed),
+        tags::UNDEFINED => Parsed::Is(Value::Undefined),
+        tags::OBJECT_ID => Parsed::Is(Value::ObjectId(framed)),
+        tags::BOOLEAN => boolean(v),
+        tags::DATE_TIME => int64(v, tags::DATE_TIME),
+        tags::NULL => Parsed::Is(Value::Null),
+        tags::REGULAR_EXPRESSION => regular_expression(v, framed.offset),
+        tags::DB_POINTER => db_pointer(s, framed),
+        tags::CODE => text(s, tags::CODE, framed),
+        tags::SYMBOL => text(s, tags::SYMBOL, framed),
+        tags::CODE_WITH_SCOPE => code_with_scope(v, framed),
+        tags::INT32 => int32(v),
+        tags::TIMESTAMP => timestamp(v),
+        tags::INT64 => int64(v, tags::INT64),
+        tags::DECIMAL128 => Parsed::Is(Value::Decimal128(framed)),
+        tags::MAX_KEY => Parsed::Is(Value::MaxKey),
+        tags::MIN_KEY => Parsed::Is(Value::MinKey),
         _ => Parsed::Refused(7),
     }
 }

@@ -79,7 +79,7 @@ pub fn visit(s: &[u8], strict: bool, level: Level, element: Element) -> Visited
         return match reading::value_of(s, element) {
             Reading::Refused { number, place: _ } => Visited::Refused(number),
             Reading::Is(value) => {
-                if level.depth <= 200 {
+                if level.depth <= bounds::MAX_DEPTH {
                     return Visited::Is(opening_of(value));
                 }
                 Visited::Refused(13)

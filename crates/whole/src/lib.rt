@@ -87,13 +87,13 @@ fn tell(strict: bool, level: Level, tag: u8) -> Told
     if strict {
         return Told::Unread;
     }
-    if 200 < level.depth {
+    if bounds::MAX_DEPTH < level.depth {
         return Told::Unread;
     }
-    if tag == 0x03 {
+    if tag == tags::DOCUMENT {
         return Told::Opens { array: false };
     }
-    if tag == 0x04 {
+    if tag == tags::ARRAY {
         return Told::Opens { array: true };
     }
     match tags::kind_of(tag) {

@@ -4,6 +4,14 @@ ghost use Prim.Native.Nat.{_≤_, _<_, _^_};
 ghost use Rattle.bson.specs.Writer as paper;
 ghost use Rattle.writer_state.specs.Said.{saidKind, said};
 
+// How many documents can be open: one around values of each depth, and one around none.
+pub const MAX_OPEN: usize = bounds::MAX_DEPTH + 2;
+
+// A state: how many bytes are used, how many documents are open, and two words for each.
+pub const WORDS: usize = 2 + 2 * MAX_OPEN;
+
+pub type Words = [u32; WORDS];
+
 // What an open document is; an array has so many elements.
 pub enum Kind {
     Document,
@@ -20,7 +28,7 @@ pub enum Told {
 fn kind_of(mark: u32) -> Told
     ensures { λ r. ⌜ said r ≡ paper.kindOf mark ⌝ }
 {
-    if mark < 0x8000_0000 {
+    if mark < bounds::NEGATIVE {
         return Told::Is(Kind::Array(mark));
     }
     if mark == 0xFFFF_FFFF {
@@ -40,7 +48,7 @@ fn holds(kind: Kind, used: u32) -> bool
 }
 
 // Whether the open document at an index can be, whose bytes end here.
-fn stands(words: &[u32; 406], i: usize, end: u32) -> bool
+fn stands(words: &Words, i: usize, end: u32) -> bool
     requires { ⌜ i < 202 ⌝ }
     ensures { λ r. ⌜ r ≡ paper.stands (now (words .entry)) i end ⌝ }
 {
@@ -58,7 +66,7 @@ fn stands(words: &[u32; 406], i: usize, end: u32) -> bool
 }
 
 // Whether so many open documents can be, from the innermost out.
-fn stand(words: &[u32; 406], depth: usize) -> bool
+fn stand(words: &Words, depth: usize) -> bool
     requires { ⌜ depth ≤ 202 ⌝ }
     ensures { λ r. ⌜ r ≡ paper.stand (now (words .entry)) depth (paper.used (now (words .entry))) ⌝ }
 {
@@ -78,10 +86,10 @@ fn stand(words: &[u32; 406], depth: usize) -> bool
 pub fn room_of(len: usize) -> usize
     ensures { λ r. ⌜ r ≡ paper.room len ⌝ }
 {
-    if len <= 2147483647 {
+    if len <= bounds::MAX_LEN {
         return len;
     }
-    2147483647
+    bounds::MAX_LEN
 }
 
 // A word as a size.
@@ -92,25 +100,25 @@ pub fn wide(word: u32) -> usize
 }
 
 // How many bytes are used.
-pub fn used(words: &[u32; 406]) -> usize
+pub fn used(words: &Words) -> usize
     ensures { λ r. ⌜ (r ≡ paper.used (now (words .entry))) × (r < 2 ^ 32) ⌝ }
 {
     wide(words[0])
 }
 
 // How many documents are open.
-pub fn depth(words: &[u32; 406]) -> usize
+pub fn depth(words: &Words) -> usize
     ensures { λ r. ⌜ (r ≡ paper.depth (now (words .entry))) × (r < 2 ^ 32) ⌝ }
 {
     wide(words[1])
 }
 
 // Whether a state can be, in so much room.
-pub fn possible(words: &[u32; 406], room: usize) -> bool
+pub fn possible(words: &Words, room: usize) -> bool
     ensures { λ r. ⌜ r ≡ paper.possible (now (words .entry)) room ⌝ }
 {
     let depth = depth(words);
-    if 202 < depth {
+    if MAX_OPEN < depth {
         return false;
     }
     if room < used(words) + depth {
@@ -120,7 +128,7 @@ pub fn possible(words: &[u32; 406], room: usize) -> bool
 }
 
 // The kind of the innermost, or 18.
-pub fn innermost(words: &[u32; 406], room: usize) -> Told
+pub fn innermost(words: &Words, room: usize) -> Told
     ensures { λ r. ⌜ said r ≡ paper.innermost (now (words .entry)) room ⌝ }
 {
     if possible(words, room) {
