@@ -10,7 +10,7 @@ ghost use Rattle.value.specs.Said.{saidValue};
 ghost use Rattle.visit.specs.Said.{saidOpening, saidLevel, saidVisited};
 use iter::Element;
 use part::Part;
-use reading::Reading;
+use value::Parsed;
 use value::Value;
 
 // Where a document lies: whether it is an array, its offset in the outermost slice, the depth of its values.
@@ -76,9 +76,9 @@ pub fn visit(s: &[u8], strict: bool, level: Level, element: Element) -> Visited
         ≡ visitOf strict (now (s .entry)) (saidLevel level) position (saidElement element)) ⌝ }
 {
     if key_passes(s, strict, level, element.key) {
-        return match reading::value_of(s, element) {
-            Reading::Refused { number, place: _ } => Visited::Refused(number),
-            Reading::Is(value) => {
+        return match value::parse(s, element.tag, element.value) {
+            Parsed::Refused(number) => Visited::Refused(number),
+            Parsed::Is(value) => {
                 if level.depth <= bounds::MAX_DEPTH {
                     return Visited::Is(opening_of(value));
                 }

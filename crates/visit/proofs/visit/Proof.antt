@@ -1,11 +1,13 @@
 -- `visit::visit` meets its contract: key, reading and depth in this order. Assumes nothing.
-use mathlib.Core.Path.{sym, _∙_}
+use mathlib.Core.Path.{sym, ap, _∙_}
 use native.Mathlib.Omega.{arith}
 use borrow.Author.Tests.{lt-leb}
+use Rattle.bson.specs.Answer.{at}
 use Rattle.bson.specs.Check.{visit}
+use Rattle.bson.specs.Value.{valueOf}
 use Rattle.laws.proofs.AnswerLaws.{answered}
 use Rattle.laws.proofs.CheckLaws.{visit-gives}
-use Rattle.reading.specs.Said as reading
+use Rattle.value.specs.Said as parsed
 use Rattle.visit.specs.Said.{saidVisited}
 use borrow.Author.Needs.{needs}
 use Rattle.visit.proofs.visit.Statement.{statement}
@@ -14,8 +16,8 @@ use Rattle.visit.proofs.visit.Tie as tie
 key-passes-requires : tie.Need-key-passes-requires
 key-passes-requires c κs = search needs
 
-value-of-requires : tie.Need-value-of-requires
-value-of-requires c κs = search needs
+parse-requires : tie.Need-parse-requires
+parse-requires c κs = search needs
 
 enum-known-number : tie.Need-enum-known-number
 enum-known-number c = search needs
@@ -27,31 +29,31 @@ opening-of-requires : tie.Need-opening-of-requires
 opening-of-requires c κs = search needs
 
 returns : tie.Need-returns
-unfolding saidVisited
+unfolding valueOf saidVisited
 returns c position =
     let b = c .before .before .before .before in
     let k = b .before .before .before .before in
     sym (visit-gives _ _ _ position _ _ (record {
       key = sym (k .key-passes .ensures position) ∙ b .before .before .before .if1 .taken;
       value = _;
-      reads = answered reading.said (b .before .before .value-of .ensures) (b .value .given .1);
+      reads = ap (at _) (answered parsed.said (b .before .before .parse .ensures) (b .value .given .1));
       shallow = omega arith;
       is = sym (c .opening-of .ensures);
     }))
 
 returns-2 : tie.Need-returns-2
-unfolding visit saidVisited
+unfolding visit valueOf saidVisited
 returns-2 c position =
     let b = c .before in
     let k = sym (b .before .before .before .before .key-passes .ensures position) ∙ b .before .before .before .if1 .taken in
-    rw (k, answered reading.said (b .before .before .value-of .ensures) (b .number .given .1))
+    rw (k, answered parsed.said (b .before .before .parse .ensures) (b .number .given .1))
 
 returns-3 : tie.Need-returns-3
-unfolding visit saidVisited
+unfolding visit valueOf saidVisited
 returns-3 c position =
     let b = c .before .before .before in
     let k = sym (b .before .before .before .before .key-passes .ensures position) ∙ b .before .before .before .if1 .taken in
-    rw (k, answered reading.said (b .before .before .value-of .ensures) (b .value .given .1), lt-leb _ _ (c .if2 .left))
+    rw (k, answered parsed.said (b .before .before .parse .ensures) (b .value .given .1), lt-leb _ _ (c .if2 .left))
 
 returns-4 : tie.Need-returns-4
 unfolding visit saidVisited
@@ -62,7 +64,7 @@ visit-spec =
     tie.close
     (tie.spec
     key-passes-requires
-    value-of-requires
+    parse-requires
     enum-known-number
     enum-known-value
     opening-of-requires
