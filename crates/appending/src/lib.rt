@@ -10,7 +10,7 @@ ghost use Rattle.bson.specs.Writer as writer;
 ghost use Rattle.writer_state.specs.Said.{saidKind};
 ghost use Rattle.appending.specs.Element.{numberOf, appending, heading, bounded};
 use writer_state::Kind;
-use writer_state::Told;
+use writer_state::OpenKind;
 use writer_state::Words;
 
 // How many bytes the key has that is written.
@@ -143,8 +143,8 @@ pub fn head(
 {
     let room = writer_state::room_of(out.len());
     match writer_state::innermost(words, room) {
-        Told::Is(kind) => head_in(out, words, room, kind, more, tag, key, good, size),
-        Told::Refused(number) => number,
+        OpenKind::Is(kind) => head_in(out, words, room, kind, more, tag, key, good, size),
+        OpenKind::Refused(number) => number,
     }
 }
 

@@ -8,7 +8,7 @@ ghost use Rattle.bson.specs.Grammar as grammar;
 ghost use Rattle.bson.specs.Output.{put};
 ghost use Rattle.bson.specs.Writer as writer;
 ghost use Rattle.nesting.specs.Opened.{openedAs, pushedAt};
-use writer_state::Told;
+use writer_state::OpenKind;
 use writer_state::Words;
 
 // One document more is open, that starts here.
@@ -115,13 +115,13 @@ pub fn close(out: &mut [u8], words: &mut Words) -> u8
 {
     let room = writer_state::room_of(out.len());
     match writer_state::innermost(words, room) {
-        Told::Is(_) => {
+        OpenKind::Is(_) => {
             let used = writer_state::used(words);
             let start = start_of(words);
             seal(out, used, start);
             pop(words);
             0
         }
-        Told::Refused(number) => number,
+        OpenKind::Refused(number) => number,
     }
 }

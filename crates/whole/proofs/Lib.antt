@@ -1,3 +1,3 @@
-mod Framed
+mod FramedLaws
 pub mod Walk
 pub mod Determined

@@ -10,7 +10,7 @@ ghost use Rattle.cstr.specs.Said.{limitOf};
 ghost use Rattle.iter.specs.Said.{saidElement};
 ghost use Rattle.visit.specs.Said.{saidLevel, saidVisited};
 ghost use Rattle.whole.specs.Said.{said};
-ghost use Rattle.whole.specs.Told.{Holds};
+ghost use Rattle.whole.specs.Framed.{Holds};
 use iter::Cursor;
 use iter::Element;
 use iter::Step;
@@ -74,36 +74,36 @@ fn walk_document(s: &[u8], strict: bool, level: Level, limit: usize) -> Verdict
 }
 
 // What framing has told of a value: that it can be read and opens nothing, or a document or an array, or nothing yet.
-enum Told {
+enum Framed {
     Closed,
     Opens { array: bool },
     Unread,
 }
 
 // Of a fixed size all bytes are values, but for a boolean's one byte; framing asks of documents all that reading asks.
-fn tell(strict: bool, level: Level, tag: u8) -> Told
+fn tell(strict: bool, level: Level, tag: u8) -> Framed
     ensures { λ r. ⌜ Holds r strict (saidLevel level) tag ⌝ }
 {
     if strict {
-        return Told::Unread;
+        return Framed::Unread;
     }
     if bounds::MAX_DEPTH < level.depth {
-        return Told::Unread;
+        return Framed::Unread;
     }
     if tag == tags::DOCUMENT {
-        return Told::Opens { array: false };
+        return Framed::Opens { array: false };
     }
     if tag == tags::ARRAY {
-        return Told::Opens { array: true };
+        return Framed::Opens { array: true };
     }
     match tags::kind_of(tag) {
         Kind::Fixed(n) => {
             if n == 1 {
-                return Told::Unread;
+                return Framed::Unread;
             }
-            Told::Closed
+            Framed::Closed
         }
-        _ => Told::Unread,
+        _ => Framed::Unread,
     }
 }
 
@@ -115,13 +115,13 @@ fn visit_framed(s: &[u8], strict: bool, level: Level, element: Element) -> Visit
 {
     let inner = element.value;
     match tell(strict, level, element.tag) {
-        Told::Closed => Visited::Is(Opening::Closed),
-        Told::Opens { array } => Visited::Is(Opening::Opens {
+        Framed::Closed => Visited::Is(Opening::Closed),
+        Framed::Opens { array } => Visited::Is(Opening::Opens {
             array,
             levels: 1,
             inner,
         }),
-        Told::Unread => visit::visit(s, strict, level, element),
+        Framed::Unread => visit::visit(s, strict, level, element),
     }
 }
 

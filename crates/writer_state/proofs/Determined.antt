@@ -8,8 +8,8 @@ use Rattle.laws.proofs.Determined.{Determined, injective-by, unsaid}
 use Rattle.writer_state.specs.Said.{saidKind, said}
 use Rattle.writer_state.specs.declared.Kind.{Kind}
 use Rattle.writer_state.specs.declared.Kind.the-variants.{Document, Array}
-use Rattle.writer_state.specs.declared.Told.{Told}
-use Rattle.writer_state.specs.declared.Told.the-variants.{Is, Refused}
+use Rattle.writer_state.specs.declared.OpenKind.{OpenKind}
+use Rattle.writer_state.specs.declared.OpenKind.the-variants.{Is, Refused}
 use Rattle.writer_state.proofs.room_of.Reads as room-of-reads
 use Rattle.writer_state.proofs.room_of.Kinds as room-of-kinds
 use Rattle.writer_state.proofs.wide.Reads as wide-reads
@@ -32,15 +32,15 @@ unfolding saidKind
 kind-again Document = refl
 kind-again (Array count) = refl
 
-abbrev told : Answer paper.Kind → Told
-told = unsaid (λ k. Is (unsaidKind k)) Refused
+abbrev unsaidOpenKind : Answer paper.Kind → OpenKind
+unsaidOpenKind = unsaid (λ k. Is (unsaidKind k)) Refused
 
-again : (r : Told) → told (said r) ≡ r
+again : (r : OpenKind) → unsaidOpenKind (said r) ≡ r
 again (Is kind) = ap Is (kind-again kind)
 again (Refused n) = refl
 
-pub said-injective : (a b : Told) → said a ≡ said b → a ≡ b
-said-injective = injective-by said told again
+pub said-injective : (a b : OpenKind) → said a ≡ said b → a ≡ b
+said-injective = injective-by said unsaidOpenKind again
 
 pub room-of-determined : (κs : Lfts 0) (a : Dens κs room-of-kinds.ps) → Determined (room-of-reads.Post κs a)
 room-of-determined κs a r₁ r₂ s₁ s₂ p q = p ∙ sym q

@@ -3,13 +3,13 @@ use Rattle.bson.specs.Answer.{Answer, gives, refuses}
 use Rattle.bson.specs.Writer as paper
 use Rattle.writer_state.specs.declared.Kind.{Kind}
 use Rattle.writer_state.specs.declared.Kind.the-variants.{Document, Array}
-use Rattle.writer_state.specs.declared.Told.{Told}
-use Rattle.writer_state.specs.declared.Told.the-variants.{Is, Refused}
+use Rattle.writer_state.specs.declared.OpenKind.{OpenKind}
+use Rattle.writer_state.specs.declared.OpenKind.the-variants.{Is, Refused}
 
 unfoldable pub saidKind : Kind → paper.Kind
 saidKind Document = paper.inDocument
 saidKind (Array count) = paper.inArray count
 
-abbrev pub said : Told → Answer paper.Kind
+abbrev pub said : OpenKind → Answer paper.Kind
 said (Is kind) = gives (saidKind kind)
 said (Refused n) = refuses n 0

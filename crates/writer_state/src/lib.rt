@@ -19,22 +19,22 @@ pub enum Kind {
 }
 
 // The kind of the innermost, or the number of the refusal.
-pub enum Told {
+pub enum OpenKind {
     Is(Kind),
     Refused(u8),
 }
 
 // The kind that a mark tells: the one place that reads it.
-fn kind_of(mark: u32) -> Told
+fn kind_of(mark: u32) -> OpenKind
     ensures { λ r. ⌜ said r ≡ paper.kindOf mark ⌝ }
 {
     if mark < bounds::NEGATIVE {
-        return Told::Is(Kind::Array(mark));
+        return OpenKind::Is(Kind::Array(mark));
     }
     if mark == 0xFFFF_FFFF {
-        return Told::Is(Kind::Document);
+        return OpenKind::Is(Kind::Document);
     }
-    Told::Refused(18)
+    OpenKind::Refused(18)
 }
 
 // Whether a kind can be where so many bytes are used.
@@ -60,8 +60,8 @@ fn stands(words: &Words, i: usize, end: u32) -> bool
         return false;
     }
     match kind_of(words[3 + 2 * i]) {
-        Told::Is(kind) => holds(kind, words[0]),
-        Told::Refused(_) => false,
+        OpenKind::Is(kind) => holds(kind, words[0]),
+        OpenKind::Refused(_) => false,
     }
 }
 
@@ -128,7 +128,7 @@ pub fn possible(words: &Words, room: usize) -> bool
 }
 
 // The kind of the innermost, or 18.
-pub fn innermost(words: &Words, room: usize) -> Told
+pub fn innermost(words: &Words, room: usize) -> OpenKind
     ensures { λ r. ⌜ said r ≡ paper.innermost (now (words .entry)) room ⌝ }
 {
     if possible(words, room) {
@@ -137,5 +137,5 @@ pub fn innermost(words: &Words, room: usize) -> Told
             return kind_of(words[3 + 2 * (depth - 1)]);
         }
     }
-    Told::Refused(18)
+    OpenKind::Refused(18)
 }

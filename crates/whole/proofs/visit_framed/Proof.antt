@@ -1,6 +1,6 @@
 -- `whole::visit_framed` meets its contract: what framing has told, or the visit. Assumes nothing.
 use Rattle.visit.specs.Said.{saidVisited}
-use Rattle.whole.proofs.Framed.{visits-closed, visits-document}
+use Rattle.whole.proofs.FramedLaws.{visits-closed, visits-document}
 use Rattle.whole.proofs.visit_framed.Statement.{statement}
 use Rattle.whole.proofs.visit_framed.Tie as tie
 

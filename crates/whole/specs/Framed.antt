@@ -5,11 +5,11 @@ use mathlib.Core.Bool.{Bool, false, cond}
 use Rattle.bson.specs.Answer.{gives}
 use Rattle.bson.specs.Level.{Level}
 use Rattle.bson.specs.Tags.{fixed, sizedOf}
-use Rattle.whole.specs.declared.Told.{Told}
-use Rattle.whole.specs.declared.Told.the-variants.{Closed, Opens, Unread}
+use Rattle.whole.specs.declared.Framed.{Framed}
+use Rattle.whole.specs.declared.Framed.the-variants.{Closed, Opens, Unread}
 
 -- what each case says of the check, the level and the tag: a fixed size other than a boolean's, or the tag of a document or an array
-abbrev pub Holds : Told → Bool → Level → ℕ → Type 0
+abbrev pub Holds : Framed → Bool → Level → ℕ → Type 0
 Holds Closed strict l tag = (strict ≡ false) × (l .depth ≤ 200) × (n : ℕ) × (sizedOf tag ≡ gives (fixed n)) × (n ≡ 1 → ⊥)
 Holds (Opens array) strict l tag = (strict ≡ false) × (l .depth ≤ 200) × (tag ≡ cond array 4 3)
 Holds Unread strict l tag = record {}
