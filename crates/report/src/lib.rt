@@ -22,7 +22,7 @@ fn hex_digit(d: u8) -> u8
 }
 
 // Puts the line of an element; the offset behind it, or the same where it does not fit and nothing is written.
-pub fn put_element(out: &mut [u8], at: usize, element: Element) -> usize
+fn put_element(out: &mut [u8], at: usize, element: Element) -> usize
     ensures { λ r. ⌜ output (now (out .exit)) r ≡ putText (output (now (out .entry)) at) (elementLine (saidElement element)) ⌝ }
 {
     let place = element.place;
@@ -71,7 +71,7 @@ fn put_refused(out: &mut [u8], at: usize, number: u8, place: usize) -> usize
 
 // Puts the line of a verdict; the offset behind it, or the same where it does not fit and nothing is written. The line is short,
 // since the verdict's numbers are the machine's.
-pub fn put_verdict(out: &mut [u8], at: usize, verdict: Verdict) -> usize
+fn put_verdict(out: &mut [u8], at: usize, verdict: Verdict) -> usize
     ensures { λ r. ⌜ output (now (out .exit)) r ≡ putText (output (now (out .entry)) at) (verdictLine (said verdict)) ⌝ }
     ensures { λ _. ⌜ length (verdictLine (said verdict)) ≤ 50 ⌝ }
 {
