@@ -15,7 +15,8 @@ use Rattle.bson.specs.Value.{Value, valueOf}
 use Rattle.bson.specs.Level.{Opening, closed, opens, opening, Level, deeper}
 use Rattle.bson.specs.Check.{Walk, keyPasses, visit, inside, opened, along, walkFor, walkUnder}
 use Rattle.laws.proofs.AnswerLaws.{never, gives-injective, unless-gives, then-gives, then-same, at-gives}
-use Rattle.laws.proofs.StepLaws.{Yields, iterate-eq, Each, iterate-each}
+use Rattle.laws.specs.FramedAt.{FramedAt}
+use Rattle.laws.proofs.StepLaws.{iterate-eq, Each, iterate-each}
 use Rattle.bson.specs.Cstring.{Limit}
 use Rattle.laws.proofs.OpenLaws.{value-opens, opens-shorter}
 
@@ -42,7 +43,7 @@ module _ (strict : Bool) (s : List ℕ) (l : Level) (position : ℕ) (e : Elemen
 
 -- walks that agree on shorter lists
 module _ (strict : Bool) (s : List ℕ) (w x : Walk) (h : (v : List ℕ) (k : Level) → length v < length s → w v k ≡ x v k) where
-  inside-same : (l : Level) (position : ℕ) (c : Cursor) (e : Element) → Yields s c e → (o : Opening) → visit strict s l position e ≡ gives o
+  inside-same : (l : Level) (position : ℕ) (c : Cursor) (e : Element) → FramedAt s c e → (o : Opening) → visit strict s l position e ≡ gives o
       → inside w s l o ≡ inside x s l o
   inside-same l position c e y closed q = refl
   inside-same l position c e y (opens isArray levels p) q =
@@ -50,7 +51,7 @@ module _ (strict : Bool) (s : List ℕ) (w x : Walk) (h : (v : List ℕ) (k : Le
       let o = value-opens s c e y (r .value) (r .reads) isArray levels p (r .is) in
       h _ _ (omega (arith, opens-shorter s c e y p o))
 
-  opened-same : (l : Level) (position : ℕ) (c : Cursor) (e : Element) → Yields s c e → opened strict w s l position e ≡ opened strict x s l position e
+  opened-same : (l : Level) (position : ℕ) (c : Cursor) (e : Element) → FramedAt s c e → opened strict w s l position e ≡ opened strict x s l position e
   unfolding opened
   opened-same l position c e y = then-same (visit strict s l position e) _ _ (λ o q. rw (inside-same l position c e y o q))
 
@@ -95,7 +96,7 @@ module _ (limit : Limit) (strict : Bool) (s : List ℕ) (l : Level) (position of
 
 -- a document has no more values than bytes
 module _ (strict : Bool) (s : List ℕ) (w : Walk) (h : (v : List ℕ) (k : Level) (n : ℕ) → length v < length s → w v k ≡ gives n → n ≤ length v) where
-  inside-few : (l : Level) (position : ℕ) (c : Cursor) (e : Element) → Yields s c e → (o : Opening) → visit strict s l position e ≡ gives o
+  inside-few : (l : Level) (position : ℕ) (c : Cursor) (e : Element) → FramedAt s c e → (o : Opening) → visit strict s l position e ≡ gives o
       → (n : ℕ) → inside w s l o ≡ gives n → n ≤ e .value .size
   inside-few l position c e y closed q n x = let z : 0 ≡ n = gives-injective x in omega arith
   inside-few l position c e y (opens isArray levels p) q n x =
@@ -105,7 +106,7 @@ module _ (strict : Bool) (s : List ℕ) (w : Walk) (h : (v : List ℕ) (k : Leve
       let j : length (bytes s p) < length s = omega arith in
       omega (arith, h (bytes s p) (deeper l isArray levels p) n j x)
 
-  opened-few : (l : Level) (position : ℕ) (c : Cursor) (e : Element) → Yields s c e → (n : ℕ) → opened strict w s l position e ≡ gives n
+  opened-few : (l : Level) (position : ℕ) (c : Cursor) (e : Element) → FramedAt s c e → (n : ℕ) → opened strict w s l position e ≡ gives n
       → c .offset + n < past e
   unfolding opened
   opened-few l position c e y n x =
@@ -137,7 +138,7 @@ walk-few : (limit : Limit) (strict : Bool) (v : List ℕ) (k : Level) (m : ℕ) 
 walk-few limit strict v k m x = few-for limit (suc (length v)) strict v k m (omega arith) x
 
 -- an element brings fewer values than it has bytes
-pub opened-count : (limit : Limit) (strict : Bool) (s : List ℕ) (l : Level) (position : ℕ) (c : Cursor) (e : Element) → Yields s c e
+pub opened-count : (limit : Limit) (strict : Bool) (s : List ℕ) (l : Level) (position : ℕ) (c : Cursor) (e : Element) → FramedAt s c e
     → (n : ℕ) → opened strict (walkUnder limit strict) s l position e ≡ gives n → c .offset + n < past e
 opened-count limit strict s l position c e y n x =
     opened-few strict s (walkUnder limit strict) (λ v k m j q. walk-few limit strict v k m q) l position c e y n x

@@ -21,7 +21,8 @@ use Rattle.laws.proofs.BytesLaws.{bytes-length, bytes-trim}
 use Rattle.laws.proofs.Common.{split}
 use Rattle.laws.proofs.FramingLaws.{string-least, document-is, document-least}
 use Rattle.laws.proofs.TagLaws.{sizeFor, type-sized}
-use Rattle.laws.proofs.StepLaws.{admitted-says, Yields}
+use Rattle.laws.specs.FramedAt.{FramedAt}
+use Rattle.laws.proofs.StepLaws.{admitted-says}
 use Tags.{ElementType, Boolean, Int32, Double, Int64, DateTime, Timestamp, ObjectId, Decimal128, Null, Undefined, MinKey, MaxKey}
 use Tags.{String, JavaScriptCode, Symbol, DbPointer, EmbeddedDocument, Array, Binary, RegularExpression, JavaScriptCodeWithScope, typeOf}
 use Value.{Leaf, Value, leaf, document, array, codeWithScope, asLeaf, bool, timestampOf, text, binaryValue, scopeValue, content, valueIn, valueOf}
@@ -167,7 +168,7 @@ scope-opens s w v h e =
     } in
     subst (λ (x : Value). OpensIn s w (opening x)) (r .is) o
 
-module _ (s : List ℕ) (c : Cursor) (e : Element) (y : Yields s c e) (v : Value) where
+module _ (s : List ℕ) (c : Cursor) (e : Element) (y : FramedAt s c e) (v : Value) where
   -- it is what its part holds of the type that framed it
   pub value-content : valueOf s e ≡ gives v
       → (t : ElementType) × (framed (sizeFor t) (drop (e .value .offset) s) ≡ gives (e .value .size)) × (content s (e .value) t ≡ gives v)
@@ -195,6 +196,6 @@ module _ (s : List ℕ) (c : Cursor) (e : Element) (y : Yields s c e) (v : Value
   value-opens x isArray levels p o = subst (OpensIn s (e .value)) o (opens-in x)
 
 -- and is shorter than the slice
-module _ (s : List ℕ) (c : Cursor) (e : Element) (y : Yields s c e) where
+module _ (s : List ℕ) (c : Cursor) (e : Element) (y : FramedAt s c e) where
   pub opens-shorter : (p : Part) → Opens s (e .value) p → (length (bytes s p) ≡ p .size) × (p .size < length s)
   opens-shorter p o = (bytes-length s p (omega arith), omega arith)

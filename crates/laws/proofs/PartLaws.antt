@@ -20,7 +20,8 @@ use Rattle.laws.proofs.BytesLaws.{bytes-length}
 use Rattle.laws.proofs.Common.{split, both-hold}
 use Rattle.laws.proofs.FramingLaws.{string-least, pointer-is, binary-is, pattern-options-fit}
 use Rattle.laws.proofs.TagLaws.{sizeFor}
-use Rattle.laws.proofs.StepLaws.{Yields, step-yields}
+use Rattle.laws.specs.FramedAt.{FramedAt}
+use Rattle.laws.proofs.StepLaws.{step-yields}
 use Rattle.laws.proofs.OpenLaws.{scope-says, value-content}
 use Tags.{ElementType, Boolean, Int32, Double, Int64, DateTime, Timestamp, ObjectId, Decimal128, Null, Undefined, MinKey, MaxKey}
 use Tags.{String, JavaScriptCode, Symbol, DbPointer, EmbeddedDocument, Array, Binary, RegularExpression, JavaScriptCodeWithScope}
@@ -101,7 +102,7 @@ module _ (s : List ℕ) (w : Part) (v : Value) (inside : w .offset + w .size ≤
   content-parts JavaScriptCodeWithScope f e = of-scope e
 
 -- both parts of a value that is read from a yielded element end in the slice
-pub parts-inside : (s : List ℕ) (c : Cursor) (e : Element) → Yields s c e → (v : Value) → valueOf s e ≡ gives v → BothEnd (length s) v
+pub parts-inside : (s : List ℕ) (c : Cursor) (e : Element) → FramedAt s c e → (v : Value) → valueOf s e ≡ gives v → BothEnd (length s) v
 parts-inside s c e y v x =
     let (t, f, h) = value-content s c e y v x in
     content-parts s (e .value) v (y .inside) t f h

@@ -24,7 +24,8 @@ use Rattle.bson.specs.Check.{Walk, keyPasses, visit, inside, opened, along, wal
 use Rattle.bson.specs.Join.{Outcome, wrote, refused, Joined, passing, sizeOfBoth, bothPut, join}
 use Rattle.bson.specs.Writer.{room}
 use Rattle.laws.proofs.AnswerLaws.{oneOf, RefusesIn, given, by, then-in, unless-in, cond-in, at-in, refused-in, within, one-within, weaken, then-gives}
-use Rattle.laws.proofs.StepLaws.{Yields, step-yields, Each, iterate-each}
+use Rattle.laws.specs.FramedAt.{FramedAt}
+use Rattle.laws.proofs.StepLaws.{step-yields, Each, iterate-each}
 use Rattle.laws.proofs.CheckLaws.{visit-says}
 use Rattle.laws.proofs.OpenLaws.{value-opens, opens-shorter}
 use Rattle.laws.proofs.ReadLaws.{element-at-says}
@@ -146,7 +147,7 @@ module _ (ms : List ℕ) (w : within contents ms ≡ true) (s : List ℕ) where
       (then-in (weaken w row) (λ t q. content-in (e .value) t (λ j. x (q ∙ ap gives j)))))
 
 -- a value that a step yielded: its pattern and options have been asked
-pub yielded-in : (s : List ℕ) (c : Cursor) (e : Element) → Yields s c e → RefusesIn contents (valueOf s e)
+pub yielded-in : (s : List ℕ) (c : Cursor) (e : Element) → FramedAt s c e → RefusesIn contents (valueOf s e)
 unfolding bytes framedUnder regexSizeUnder
 yielded-in s c e y =
     value-by contents refl s e λ q.
@@ -330,7 +331,7 @@ module _ (limit : Limit) (strict : Bool) where
   damaged : (n : ℕ) → oneOf (damage limit) n ≡ true → oneOf (checks limit strict) n ≡ true
   damaged n = one-within (damage limit) (checks limit strict) n (damage-within limit strict)
 
-  visit-in : (s : List ℕ) (l : Level) (position : ℕ) (c : Cursor) (e : Element) → Yields s c e
+  visit-in : (s : List ℕ) (l : Level) (position : ℕ) (c : Cursor) (e : Element) → FramedAt s c e
       → RefusesIn (checks limit strict) (visit strict s l position e)
   unfolding visit
   visit-in s l position c e y =
@@ -340,7 +341,7 @@ module _ (limit : Limit) (strict : Bool) where
       (then-in (weaken (damage-within limit strict) v) (λ v q. unless-in (leb (l .depth) 200) 13 (damaged 13 refl) given)))
 
   module _ (s : List ℕ) (w : Walk) (h : (v : List ℕ) (k : Level) → length v < length s → RefusesIn (checks limit strict) (w v k)) where
-    inside-in : (l : Level) (position : ℕ) (c : Cursor) (e : Element) → Yields s c e → (o : Opening) → visit strict s l position e ≡ gives o
+    inside-in : (l : Level) (position : ℕ) (c : Cursor) (e : Element) → FramedAt s c e → (o : Opening) → visit strict s l position e ≡ gives o
         → RefusesIn (checks limit strict) (inside w s l o)
     inside-in l position c e y closed q = given
     inside-in l position c e y (opens isArray levels p) q =
@@ -348,7 +349,7 @@ module _ (limit : Limit) (strict : Bool) where
         let o = value-opens s c e y (r .value) (r .reads) isArray levels p (r .is) in
         h _ _ (omega (arith, opens-shorter s c e y p o))
 
-    opened-in : (l : Level) (position : ℕ) (c : Cursor) (e : Element) → Yields s c e
+    opened-in : (l : Level) (position : ℕ) (c : Cursor) (e : Element) → FramedAt s c e
         → RefusesIn (checks limit strict) (opened strict w s l position e)
     unfolding opened
     opened-in l position c e y = then-in (visit-in s l position c e y) (λ o q. then-in (inside-in l position c e y o q) (λ n r. given))

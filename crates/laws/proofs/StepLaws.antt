@@ -16,6 +16,7 @@ use Rattle.bson.specs.Cstring.{Limit, isZero, firstZero, cstring, validCstr, cs
 use Rattle.bson.specs.Framing.{valueSize, valueSizeUnder}
 use Rattle.bson.specs.Step.{terminator, admitted, Cursor, cursor, Element, past, Step, yield, end, step, Iteration, ended, broken, more, onward}
 use Rattle.bson.specs.Step.{iterateFor, elementUnder, iterateUnder, stepUnder}
+use Rattle.laws.specs.FramedAt.{FramedAt}
 use Rattle.laws.proofs.AnswerLaws.{never, gives-injective, unless-gives, then-gives, at-gives}
 use Rattle.laws.proofs.FramingLaws.{value-size-fits, value-size-under}
 use Rattle.laws.proofs.BytesLaws.{same-eq}
@@ -38,21 +39,6 @@ pub step-admits : (limit : Limit) (s : List ℕ) (c : Cursor) (x : Step) → ste
 unfolding stepUnder
 step-admits limit s c x q = let (n, a, h) = then-gives (admitted s) _ q in a ∙ ap gives (admitted-says s n a .1)
 
--- an element that a step at a cursor yields, under whatever limit: where it lies, and that its key and its value are framed there
-pub record Yields (s : List ℕ) (c : Cursor) (e : Element) : Type 0 where
-  pub admits : admitted s ≡ gives (length s)
-  pub going : c .ended ≡ false
-  pub low : 4 ≤ c .offset
-  pub high : c .offset < terminator s
-  pub placed : e .place ≡ c .offset
-  pub tagged : e .tag ≡ getD s (c .offset) 0
-  pub key-at : e .key .offset ≡ c .offset + 1
-  pub value-at : e .value .offset ≡ e .key .offset + e .key .size + 1
-  pub wide : c .offset + 2 ≤ e .value .offset
-  pub inside : past e ≤ length s
-  pub key-is : cstring (drop (c .offset + 1) s) ≡ gives (e .key .size)
-  pub value-is : valueSize (e .tag) (drop (e .value .offset) s) ≡ gives (e .value .size)
-
 -- a test that answers end did not hold
 not-end : (b : Bool) (x : Answer Step) (e : Element) → cond b (gives end) x ≡ gives (yield e) → (b ≡ false) × (x ≡ gives (yield e))
 not-end true x e h = let z : _≡_ {A = ℕ} 0 1 = cc in absurd (omega arith)
@@ -73,7 +59,7 @@ element-inside limit s p e x =
 
 module _ (limit : Limit) (s : List ℕ) (c : Cursor) (e : Element) where
   element-yields : admitted s ≡ gives (length s) → c .ended ≡ false → 4 ≤ c .offset → c .offset < terminator s
-      → elementUnder limit s (c .offset) ≡ gives e → Yields s c e
+      → elementUnder limit s (c .offset) ≡ gives e → FramedAt s c e
   unfolding elementUnder
   element-yields a g l h x =
       let p = c .offset in
@@ -111,7 +97,7 @@ module _ (limit : Limit) (s : List ℕ) (c : Cursor) (e : Element) where
       let h : c .offset < terminator s = omega (arith, leb-true (c .offset) (terminator s) high, eqb-false (c .offset) (terminator s) f) in
       (g, leb-true 4 (c .offset) low, h, x5 ∙ ap gives i)
 
-  pub step-yields : stepUnder limit s c ≡ gives (yield e) → Yields s c e
+  pub step-yields : stepUnder limit s c ≡ gives (yield e) → FramedAt s c e
   step-yields x =
       let (g, l, h, y) = step-tests x in
       element-yields (step-admits limit s c (yield e) x) g l h y
@@ -129,7 +115,7 @@ module _ (limit : Limit) (s : List ℕ) (c : Cursor) (e : Element) where
 
 -- and a step at its place yields it
 module _ (s : List ℕ) (c : Cursor) (e : Element) where
-  pub yields-step : Yields s c e → step s (cursor (e .place) false) ≡ gives (yield e)
+  pub yields-step : FramedAt s c e → step s (cursor (e .place) false) ≡ gives (yield e)
   unfolding stepUnder elementUnder
   yields-step y =
       let low = le-leb 4 (c .offset) (y .low) in
@@ -140,11 +126,11 @@ module _ (s : List ℕ) (c : Cursor) (e : Element) where
       rw (y .placed, y .admits, low, high, going, y .key-is, value, ← y .tagged, ← y .key-at, ← y .value-at, ← y .placed)
 
 -- the key of a yielded element is a valid one, so another matches nothing
-pub key-valid : (s : List ℕ) (c : Cursor) (e : Element) → Yields s c e → validCstr (bytes s (e .key)) ≡ true
+pub key-valid : (s : List ℕ) (c : Cursor) (e : Element) → FramedAt s c e → validCstr (bytes s (e .key)) ≡ true
 unfolding bytes
 key-valid s c e y = rw (y .key-at) (cstring-valid (drop (c .offset + 1) s) (e .key .size) (y .key-is))
 
-pub other-key-unmatched : (s : List ℕ) (c : Cursor) (e : Element) → Yields s c e
+pub other-key-unmatched : (s : List ℕ) (c : Cursor) (e : Element) → FramedAt s c e
     → (key : List ℕ) → validCstr key ≡ false → same key (bytes s (e .key)) ≡ false
 other-key-unmatched s c e y key h =
     split (same key (bytes s (e .key)))
@@ -192,7 +178,7 @@ iterate-eq limit s offset =
 abbrev pub Each : List ℕ → ℕ → Iteration → Type 0
 Each s offset ended = record {}
 Each s offset (broken n p) = record {}
-Each s offset (more e rest) = Yields s (cursor offset false) e × Each s (past e) rest
+Each s offset (more e rest) = FramedAt s (cursor offset false) e × Each s (past e) rest
 
 module _ (limit : Limit) where
   each-onward : (s : List ℕ) (offset : ℕ) (f : ℕ → Iteration) → ((next : ℕ) → Each s next (f next))

@@ -16,7 +16,8 @@ use Rattle.bson.specs.Step.{Cursor, Element, past, Iteration, ended, broken, mo
 use Rattle.bson.specs.Check.{check}
 use Rattle.bson.specs.Report.{header, elementLine, verdictLine, elementLines, reportLines, report}
 use Rattle.laws.proofs.Common.{split}
-use Rattle.laws.proofs.StepLaws.{Yields, Each, iterate-each}
+use Rattle.laws.specs.FramedAt.{FramedAt}
+use Rattle.laws.proofs.StepLaws.{Each, iterate-each}
 use Rattle.laws.proofs.OutputLaws.{texts-fit}
 use Rattle.laws.proofs.DecimalLaws.{width-within, width-small}
 use Rattle.report.proofs.Lines.{accepted-size, refused-size}
@@ -30,7 +31,7 @@ pub refused-short : (number place : ℕ) → number < 2 ^ 64 → place < 2 ^ 64 
 refused-short number place h g = omega (arith, refused-size number place _ _ refl refl, width-small number h, width-small place g)
 
 -- place and size have five digits at the most
-element-short : (s : List ℕ) (c : Cursor) (e : Element) → Yields s c e → length s ≤ 65535 → length (elementLine e) ≤ 15
+element-short : (s : List ℕ) (c : Cursor) (e : Element) → FramedAt s c e → length s ≤ 65535 → length (elementLine e) ≤ 15
 element-short s c e y h =
     let p : e .place < 10 ^ 5 = omega arith in
     let n : e .value .size < 10 ^ 5 = omega arith in

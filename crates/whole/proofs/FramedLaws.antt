@@ -19,7 +19,7 @@ use Rattle.bson.specs.Value as value
 use Rattle.bson.specs.Value.{Value, leaf, document, int32, int64, dateTime, double, timestamp, content, valueIn, valueOf, timestampOf}
 use Rattle.laws.proofs.AnswerLaws.{gives-injective, then-gives, then-from, unless-gives}
 use Rattle.laws.proofs.BytesLaws.{bytes-length}
-use Rattle.laws.proofs.StepLaws.{Yields}
+use Rattle.laws.specs.FramedAt.{FramedAt}
 use Rattle.laws.proofs.TagLaws.{sizeFor, type-sized}
 use Tags.{ElementType, Boolean, Int32, Double, Int64, DateTime, Timestamp, ObjectId, Decimal128, Null, Undefined, MinKey, MaxKey}
 use Tags.{String, JavaScriptCode, Symbol, DbPointer, EmbeddedDocument, Array, Binary, RegularExpression, JavaScriptCodeWithScope}
@@ -83,7 +83,7 @@ module _ (s : List ℕ) (p : Part) (n : ℕ) (one : n ≡ 1 → ⊥) (l : length
   closes RegularExpression z = unfixed (ap isFixed z)
   closes JavaScriptCodeWithScope z = unfixed (ap isFixed z)
 
-module _ (s : List ℕ) (c : Cursor) (e : Element) (y : Yields s c e) where
+module _ (s : List ℕ) (c : Cursor) (e : Element) (y : FramedAt s c e) where
   -- once it is framed, what its type says is read
   value-is-of : (t : ElementType) (v : Value) → typeOf (e .tag) ≡ gives t → content s (e .value) t ≡ gives v → valueOf s e ≡ gives v
   unfolding valueOf valueIn

@@ -15,7 +15,8 @@ use Rattle.bson.specs.Value.{Value, leaf, document, array, codeWithScope}
 use Rattle.bson.specs.Level.{Opening, closed, opens, opening, Level, deeper}
 use Rattle.bson.specs.Check.{visit, opened, walkUnder}
 use Rattle.laws.proofs.AnswerLaws.{never, answered}
-use Rattle.laws.proofs.StepLaws.{Yields, step-yields}
+use Rattle.laws.specs.FramedAt.{FramedAt}
+use Rattle.laws.proofs.StepLaws.{step-yields}
 use Rattle.laws.proofs.AdvanceLaws.{step-unadmitted, refused-place}
 use Rattle.laws.proofs.OpenLaws.{value-opens}
 use Rattle.laws.proofs.CheckLaws.{visit-says, walk-from, walk-eq, walk-ends, walk-refused, walk-onward}
@@ -48,8 +49,8 @@ refused-before limit s offset n p q = of (admitted s) refl
 
 -- an element that a step yields stands at its place
 pub yields-placed : (limit : Limit) (s : List ℕ) (offset : ℕ) (e : Element) → stepUnder limit s (cursor offset false) ≡ gives (yield e)
-    → Yields s (cursor (e .place) false) e
-yields-placed limit s offset e x = let y = step-yields limit s _ e x in subst (λ (p : ℕ). Yields s (cursor p false) e) (sym (y .placed)) y
+    → FramedAt s (cursor (e .place) false) e
+yields-placed limit s offset e x = let y = step-yields limit s _ e x in subst (λ (p : ℕ). FramedAt s (cursor p false) e) (sym (y .placed)) y
 
 -- an opened value, by what visiting it answers
 module _ (limit : Limit) (strict : Bool) (s : List ℕ) (l : Level) (position : ℕ) (e : Element) where
@@ -81,7 +82,7 @@ pub record Enters (s : List ℕ) (l : Level) (c : Cursor) (levels : ℕ) (inner 
   pub shallow : l .depth ≤ 200
   pub few : levels ≤ 2
 
-pub enters : (strict : Bool) (s : List ℕ) (l : Level) (position : ℕ) (c : Cursor) (e : Element) → Yields s c e
+pub enters : (strict : Bool) (s : List ℕ) (l : Level) (position : ℕ) (c : Cursor) (e : Element) → FramedAt s c e
     → (isArray : Bool) (levels : ℕ) (inner : Part) → visit strict s l position e ≡ gives (opens isArray levels inner) → Enters s l c levels inner
 enters strict s l position c e y isArray levels inner v =
     let r = visit-says strict s l position e _ v in

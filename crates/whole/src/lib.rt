@@ -5,7 +5,7 @@ ghost use mathlib.Core.Bool.{true, false};
 ghost use lib.ListN.{length};
 ghost use Rattle.bson.specs.Step.{cursor};
 ghost use Rattle.bson.specs.Check.{visit as visitOf, opened, walkUnder, checkUnder, check as checkOf};
-ghost use Rattle.laws.proofs.StepLaws.{Yields};
+ghost use Rattle.laws.specs.FramedAt.{FramedAt};
 ghost use Rattle.cstr.specs.Said.{limitOf};
 ghost use Rattle.iter.specs.Said.{saidElement};
 ghost use Rattle.visit.specs.Said.{saidLevel, saidVisited};
@@ -109,7 +109,7 @@ fn tell(strict: bool, level: Level, tag: u8) -> Framed
 
 // Visits a value that a step yielded, and reads it only where framing has not told enough.
 fn visit_framed(s: &[u8], strict: bool, level: Level, element: Element) -> Visited
-    requires { ⌜ Yields (now s) (cursor (element .place) false) (saidElement element) ⌝ }
+    requires { ⌜ FramedAt (now s) (cursor (element .place) false) (saidElement element) ⌝ }
     ensures { λ r. ⌜ ((position : ℕ) → saidVisited (level .base + element .place) r
         ≡ visitOf strict (now (s .entry)) (saidLevel level) position (saidElement element)) ⌝ }
 {
@@ -127,7 +127,7 @@ fn visit_framed(s: &[u8], strict: bool, level: Level, element: Element) -> Visit
 
 // Opens a value that a step yielded: visits it, and walks the document inside it, if there is one.
 fn open_value(s: &[u8], strict: bool, level: Level, element: Element, limit: usize) -> Verdict
-    requires { ⌜ (level .base + length (now s) < 2 ^ 63) × Yields (now s) (cursor (element .place) false) (saidElement element) ⌝ }
+    requires { ⌜ (level .base + length (now s) < 2 ^ 63) × FramedAt (now s) (cursor (element .place) false) (saidElement element) ⌝ }
     ensures { λ r. ⌜ ((position : ℕ) → said r
         ≡ opened strict (walkUnder (limitOf limit) strict) (now (s .entry)) (saidLevel level) position (saidElement element)) ⌝ }
 {

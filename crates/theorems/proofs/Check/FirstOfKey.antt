@@ -9,7 +9,8 @@ use Rattle.bson.specs.Answer.{gives}
 use Rattle.bson.specs.Bytes.{bytes, same}
 use Rattle.bson.specs.Step.{terminator, cursor, Element, past, yield, stepUnder}
 use Rattle.bson.specs.Reach.{Ends, here, later, From, first, next, Among, First}
-use Rattle.laws.proofs.StepLaws.{Yields, step-yields}
+use Rattle.laws.specs.FramedAt.{FramedAt}
+use Rattle.laws.proofs.StepLaws.{step-yields}
 use Rattle.theorems.proofs.Check.Spots.{one-element}
 use Rattle.laws.proofs.BytesLaws.{same-self}
 use Rattle.bson.specs.Cstring.{Limit}
@@ -28,7 +29,7 @@ module _ (limit : Limit) where
       let x : e ≡ g = one-element (stepUnder limit d (cursor a false)) e g y (rw o z) in
       omega (arith, ap past x)
 
-  pub among-yields : (d : List ℕ) (e : Element) (a : Among limit d e) → Yields d (cursor (a .offset) false) e
+  pub among-yields : (d : List ℕ) (e : Element) (a : Among limit d e) → FramedAt d (cursor (a .offset) false) e
   among-yields d e a = step-yields limit d (cursor (a .offset) false) e (a .yields)
 
   -- elements at one place are one

@@ -15,7 +15,8 @@ use Rattle.bson.specs.Check.{inside, visit, opened, checkUnder, walkUnder}
 use Rattle.bson.specs.Reach.{Spot, behind, within, YieldsAt, Comes, first, next, into}
 use Rattle.laws.proofs.AnswerLaws.{never, gives-injective, then-gives, then-from}
 use Rattle.laws.proofs.ReadLaws.{read-says}
-use Rattle.laws.proofs.StepLaws.{Yields, step-yields}
+use Rattle.laws.specs.FramedAt.{FramedAt}
+use Rattle.laws.proofs.StepLaws.{step-yields}
 use Rattle.laws.proofs.OpenLaws.{Opens, value-opens, opens-shorter}
 use Rattle.laws.proofs.CheckLaws.{Visited, visit-says, visit-gives, walk-from, walk-eq, walk-ends, walk-refused, walk-onward}
 
@@ -32,7 +33,7 @@ end-no-element x e p q = let z : _≡_ {A = ℕ} 0 1 = cc in omega arith
 
 -- what is opened at a spot lies inside the element there, and is shorter than its document
 pub record Deeper (σ : Spot) (e : Element) (p : Part) : Type 0 where
-  pub yields : Yields (σ .document) (cursor (σ .offset) false) e
+  pub yields : FramedAt (σ .document) (cursor (σ .offset) false) e
   pub lies : Opens (σ .document) (e .value) p
   pub sized : length (bytes (σ .document) p) ≡ p .size
   pub shorter : p .size < length (σ .document)

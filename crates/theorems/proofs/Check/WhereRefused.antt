@@ -16,7 +16,8 @@ use Rattle.bson.specs.Value.{valueOf}
 use Rattle.bson.specs.Level.{Opening, closed, opens, opening, Level, outermost, deeper}
 use Rattle.bson.specs.Check.{Walk, keyPasses, visit, inside, opened, along, walkFor, walkUnder, checkUnder}
 use Rattle.laws.proofs.AnswerLaws.{never}
-use Rattle.laws.proofs.StepLaws.{Yields, step-yields, admitted-says}
+use Rattle.laws.specs.FramedAt.{FramedAt}
+use Rattle.laws.proofs.StepLaws.{step-yields, admitted-says}
 use Rattle.laws.proofs.CheckLaws.{visit-says}
 use Rattle.laws.proofs.OpenLaws.{value-opens, opens-shorter}
 use Rattle.theorems.specs.EveryYield.{Accounted, OfElement, Met}
@@ -48,7 +49,7 @@ At e n q = OfElement e q
 abbrev Within : List ℕ → ℕ → ℕ → Type 0
 Within s n q = q ≤ length s
 
-visit-met : (strict : Bool) (s : List ℕ) (l : Level) (position : ℕ) (c : Cursor) (e : Element) → Yields s c e
+visit-met : (strict : Bool) (s : List ℕ) (l : Level) (position : ℕ) (c : Cursor) (e : Element) → FramedAt s c e
     → Refused (l .base) (At e) (visit strict s l position e)
 unfolding visit
 visit-met strict s l position c e y =
@@ -59,7 +60,7 @@ visit-met strict s l position c e y =
 module _ (limit : Limit) (strict : Bool) where
   module _ (s : List ℕ) (w : Walk)
       (h : (v : List ℕ) (k : Level) (n : ℕ) → length v < length s → admitted v ≡ gives n → Refused (k .base) (Within v) (w v k)) where
-    inside-met : (l : Level) (position : ℕ) (c : Cursor) (e : Element) → Yields s c e → (o : Opening) → visit strict s l position e ≡ gives o
+    inside-met : (l : Level) (position : ℕ) (c : Cursor) (e : Element) → FramedAt s c e → (o : Opening) → visit strict s l position e ≡ gives o
         → Refused (l .base) (At e) (inside w s l o)
     inside-met l position c e y closed q = given
     inside-met l position c e y (opens isArray levels p) q =
@@ -70,7 +71,7 @@ module _ (limit : Limit) (strict : Bool) where
         (λ n k t. (p .offset + k, omega arith, (omega (arith, o .from), omega (arith, o .to))))
         (h (bytes s p) (deeper l isArray levels p) _ (omega arith) (o .admits))
 
-    opened-met : (l : Level) (position : ℕ) (c : Cursor) (e : Element) → Yields s c e
+    opened-met : (l : Level) (position : ℕ) (c : Cursor) (e : Element) → FramedAt s c e
         → Refused (l .base) (At e) (opened strict w s l position e)
     unfolding opened
     opened-met l position c e y =

@@ -16,7 +16,7 @@ use Rattle.bson.specs.Grammar.{nestBytes, Elements, elementBytes, listBytes, tr
 use Rattle.bson.specs.Meaning.{Holding, Yields, MeansFrom, ends, yields, opens, Means}
 use Rattle.laws.proofs.ReadLaws.{read-step}
 use Rattle.laws.proofs.CstringLaws.{cstring-splits}
-use Rattle.laws.proofs.StepLaws
+use Rattle.laws.specs.FramedAt.{FramedAt}
 use Rattle.laws.proofs.StepLaws.{admitted-says, step-admits, step-yields, key-valid}
 use Rattle.laws.proofs.GrammarBack.{bytes-are, document-back}
 use Rattle.theorems.proofs.Grammar.ItemBytes.{CodesOf, element-codes}
@@ -28,7 +28,7 @@ part-front s p =
     sym (take-append-drop (p .size) (drop (p .offset) s)) ∙ ap (λ (l : List ℕ). bytes s p ++ l) (drop-drop (p .size) (p .offset) s)
 
 -- an element that a step yields is its tag, its key, a zero and its value, and the next begins behind them
-element-bytes : (s : List ℕ) (c : Cursor) (e : Element) → StepLaws.Yields s c e
+element-bytes : (s : List ℕ) (c : Cursor) (e : Element) → FramedAt s c e
     → drop (c .offset) s ≡ elementBytes (e .tag) (bytes s (e .key)) (bytes s (e .value)) ++ drop (past e) s
 unfolding elementBytes bytes
 element-bytes s c e y =
