@@ -13,7 +13,7 @@ use Rattle.bson.specs.Output.{Output, output, put, putTexts, joined}
 use Rattle.bson.specs.Writer.{State, used, depth, Kind, inDocument, inArray, keyIn, innermost, kindHolds, roomFor, grown, desk, room, written}
 use Rattle.laws.proofs.GrammarLaws.{length-element}
 use Rattle.laws.proofs.OutputLaws.{texts-fit}
-use Rattle.laws.proofs.WriterLaws.{room-within, innermost-says, Sizes, sizes, room-says}
+use Rattle.laws.proofs.WriterLaws.{room-within, innermost-says, DeskSizes, desk-sizes, room-says}
 use Rattle.laws.proofs.WriterRefusals.{room-refused}
 use Rattle.appending.specs.Element.{numberOf, headed, heading}
 
@@ -34,8 +34,8 @@ module _ (w : State) (buffer : List ℕ) (m : ℕ) (kind : Kind) (em : m ≡ roo
   inner : innermost w (room (length buffer)) ≡ gives kind
   inner = ap (innermost w) (sym em) ∙ ei
 
-  known : Sizes (desk w buffer) kind
-  known = sizes (desk w buffer) kind (innermost-says (desk w buffer) kind inner)
+  known : DeskSizes (desk w buffer) kind
+  known = desk-sizes (desk w buffer) kind (innermost-says (desk w buffer) kind inner)
 
   -- what a word more relies on
   pub few : (depth w ≤ 202) × (kindHolds 2147483647 kind ≡ true)

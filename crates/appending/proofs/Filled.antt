@@ -17,7 +17,7 @@ use Rattle.laws.proofs.Common.{split}
 use Rattle.laws.proofs.GrammarLaws.{length-element}
 use Rattle.laws.proofs.OutputLaws.{put-put, texts-fit}
 use Rattle.laws.proofs.WriterWords.{there, grown-used}
-use Rattle.laws.proofs.WriterLaws.{room-within, innermost-says, sizes, room-says, appended-says}
+use Rattle.laws.proofs.WriterLaws.{room-within, innermost-says, desk-sizes, room-says, appended-says}
 use Rattle.laws.proofs.WriterRefusals.{appended-refused, accepted-from}
 use Rattle.appending.specs.Element.{appending, headed, heading}
 
@@ -49,7 +49,7 @@ module _ (d : Desk) (more tag : ℕ) (key : List ℕ) (good : Bool) (value : Lis
     unfolding front new
     whole =
         let f = room-says (d .state) (roomOf d) more key good (length value) kind er in
-        let s = sizes d kind (innermost-says d kind (f .inner)) in
+        let s = desk-sizes d kind (innermost-says d kind (f .inner)) in
         let u = grown-used (d .state) kind (length new) (omega (arith, there (d .state) 1 (s .some))) in
         let k = length-element tag (keyIn kind key) [] in
         let r = room-within (length (d .buffer)) .0 in
@@ -110,7 +110,7 @@ module _ (w : State) (buffer : List ℕ) (more tag : ℕ) (key : List ℕ) (good
     pub value-fits : (size ≤ used v) × (used v ≤ length buffer) × (used v ≤ 2147483647)
     value-fits =
         let a = appended-says (desk w buffer) more tag key good value _ given in
-        let s = sizes (desk w buffer) (a .kind) (innermost-says (desk w buffer) (a .kind) (a .inner)) in
+        let s = desk-sizes (desk w buffer) (a .kind) (innermost-says (desk w buffer) (a .kind) (a .inner)) in
         let new = elementBytes tag (keyIn (a .kind) key) value in
         let l : length new ≡ 2 + length (keyIn (a .kind) key) + length value = length-element tag (keyIn (a .kind) key) value in
         let g : v ≡ grown (a .kind) w (length new) = ap (λ (d : Desk). d .state) (a .is) in

@@ -80,18 +80,18 @@ refused-in given e = never (sym e)
 refused-in {ms = ms} {n = n} (by {n = m} h) e = let i : m ≡ n = cc in subst (λ (k : ℕ). oneOf ms k ≡ true) i h
 
 -- each number of a list is in another: `refl` shows it of two that are written out
-abbrev pub within : List ℕ → List ℕ → Bool
-within [] ns = true
-within (m ∷ ms) ns = oneOf ns m && within ms ns
+abbrev pub allIn : List ℕ → List ℕ → Bool
+allIn [] ns = true
+allIn (m ∷ ms) ns = oneOf ns m && allIn ms ns
 
-pub one-within : (ms ns : List ℕ) (n : ℕ) → within ms ns ≡ true → oneOf ms n ≡ true → oneOf ns n ≡ true
-one-within [] ns n w h = absurd (true≢false (sym h))
-one-within (m ∷ ms) ns n w h =
-    let (a, b) = both-hold (oneOf ns m) (within ms ns) w in
+pub one-all-in : (ms ns : List ℕ) (n : ℕ) → allIn ms ns ≡ true → oneOf ms n ≡ true → oneOf ns n ≡ true
+one-all-in [] ns n w h = absurd (true≢false (sym h))
+one-all-in (m ∷ ms) ns n w h =
+    let (a, b) = both-hold (oneOf ns m) (allIn ms ns) w in
     split (eqb n m)
     (λ t. subst (λ (k : ℕ). oneOf ns k ≡ true) (sym (eqb-true n m t)) a)
-    (λ t. one-within ms ns n b (rw t at h))
+    (λ t. one-all-in ms ns n b (rw t at h))
 
-pub weaken : {A : Type 0} {ms ns : List ℕ} {x : Answer A} → within ms ns ≡ true → RefusesIn ms x → RefusesIn ns x
+pub weaken : {A : Type 0} {ms ns : List ℕ} {x : Answer A} → allIn ms ns ≡ true → RefusesIn ms x → RefusesIn ns x
 weaken w given = given
-weaken {ms = ms} {ns = ns} w (by {n = n} h) = by (one-within ms ns n w h)
+weaken {ms = ms} {ns = ns} w (by {n = n} h) = by (one-all-in ms ns n w h)

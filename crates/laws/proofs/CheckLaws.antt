@@ -70,28 +70,28 @@ enough limit strict (suc n) (suc m) s l h k =
     (λ v d i. enough limit strict n m v d (omega arith) (omega arith)) l 0 4 (iterateUnder limit s 4) (iterate-each limit s 4)
 
 -- the walk from an offset on, behind so many elements
-abbrev pub walk-from : Limit → Bool → List ℕ → Level → ℕ → ℕ → Answer ℕ
-walk-from limit strict s l position offset = along strict (walkUnder limit strict) s l position (iterateUnder limit s offset)
+abbrev pub walkFrom : Limit → Bool → List ℕ → Level → ℕ → ℕ → Answer ℕ
+walkFrom limit strict s l position offset = along strict (walkUnder limit strict) s l position (iterateUnder limit s offset)
 
-pub walk-eq : (limit : Limit) (strict : Bool) (s : List ℕ) (l : Level) → walkUnder limit strict s l ≡ walk-from limit strict s l 0 4
+pub walk-eq : (limit : Limit) (strict : Bool) (s : List ℕ) (l : Level) → walkUnder limit strict s l ≡ walkFrom limit strict s l 0 4
 unfolding walkUnder walkFor
 walk-eq limit strict s l =
     along-same strict s (walkFor limit (length s) strict) (walkUnder limit strict)
     (λ v d i. enough limit strict (length s) (suc (length v)) v d i (omega arith)) l 0 4 (iterateUnder limit s 4) (iterate-each limit s 4)
 
 module _ (limit : Limit) (strict : Bool) (s : List ℕ) (l : Level) (position offset : ℕ) where
-  walked : walk-from limit strict s l position offset ≡ along strict (walkUnder limit strict) s l position (onward (stepUnder limit s (cursor offset false)) (iterateUnder limit s))
+  walked : walkFrom limit strict s l position offset ≡ along strict (walkUnder limit strict) s l position (onward (stepUnder limit s (cursor offset false)) (iterateUnder limit s))
   walked = ap (along strict (walkUnder limit strict) s l position) (iterate-eq limit s offset)
 
-  pub walk-ends : stepUnder limit s (cursor offset false) ≡ gives end → walk-from limit strict s l position offset ≡ gives 0
+  pub walk-ends : stepUnder limit s (cursor offset false) ≡ gives end → walkFrom limit strict s l position offset ≡ gives 0
   walk-ends e = walked ∙ rw e
 
-  pub walk-refused : (n p : ℕ) → stepUnder limit s (cursor offset false) ≡ refuses n p → walk-from limit strict s l position offset ≡ refuses n (l .base + p)
+  pub walk-refused : (n p : ℕ) → stepUnder limit s (cursor offset false) ≡ refuses n p → walkFrom limit strict s l position offset ≡ refuses n (l .base + p)
   walk-refused n p e = walked ∙ rw e
 
   pub walk-onward : (e : Element) → stepUnder limit s (cursor offset false) ≡ gives (yield e)
-      → walk-from limit strict s l position offset
-      ≡ (then (opened strict (walkUnder limit strict) s l position e) λ n. then (walk-from limit strict s l (suc position) (past e)) λ m. gives (n + m))
+      → walkFrom limit strict s l position offset
+      ≡ (then (opened strict (walkUnder limit strict) s l position e) λ n. then (walkFrom limit strict s l (suc position) (past e)) λ m. gives (n + m))
   walk-onward e y = walked ∙ rw y
 
 -- a document has no more values than bytes

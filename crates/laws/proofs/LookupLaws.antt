@@ -25,24 +25,24 @@ use Rattle.laws.proofs.StepLaws.{step-yields, iterate-eq}
 use Rattle.laws.proofs.PartLaws.{BothEnd, parts-inside}
 
 -- the search from an offset on
-abbrev pub search-from : Limit → List ℕ → List ℕ → ℕ → Answer Found
-search-from limit s key offset = first s key (iterateUnder limit s offset)
+abbrev pub searchFrom : Limit → List ℕ → List ℕ → ℕ → Answer Found
+searchFrom limit s key offset = first s key (iterateUnder limit s offset)
 
 module _ (limit : Limit) (s key : List ℕ) (offset : ℕ) where
-  searched : search-from limit s key offset ≡ first s key (onward (stepUnder limit s (cursor offset false)) (iterateUnder limit s))
+  searched : searchFrom limit s key offset ≡ first s key (onward (stepUnder limit s (cursor offset false)) (iterateUnder limit s))
   searched = ap (first s key) (iterate-eq limit s offset)
 
-  pub search-ends : stepUnder limit s (cursor offset false) ≡ gives end → search-from limit s key offset ≡ refuses 16 offset
+  pub search-ends : stepUnder limit s (cursor offset false) ≡ gives end → searchFrom limit s key offset ≡ refuses 16 offset
   search-ends e = searched ∙ rw (e, ended-at _ s offset e)
 
-  pub search-refused : (n p : ℕ) → stepUnder limit s (cursor offset false) ≡ refuses n p → search-from limit s key offset ≡ refuses n p
+  pub search-refused : (n p : ℕ) → stepUnder limit s (cursor offset false) ≡ refuses n p → searchFrom limit s key offset ≡ refuses n p
   search-refused n p e = searched ∙ rw e
 
   module _ (e : Element) (y : stepUnder limit s (cursor offset false) ≡ gives (yield e)) where
-    pub search-found : same key (bytes s (e .key)) ≡ true → search-from limit s key offset ≡ found s e
+    pub search-found : same key (bytes s (e .key)) ≡ true → searchFrom limit s key offset ≡ found s e
     search-found k = searched ∙ rw (y, k)
 
-    pub search-onward : same key (bytes s (e .key)) ≡ false → search-from limit s key offset ≡ search-from limit s key (past e)
+    pub search-onward : same key (bytes s (e .key)) ≡ false → searchFrom limit s key offset ≡ searchFrom limit s key (past e)
     search-onward k = searched ∙ rw (y, k)
 
 -- a typed getter gives the number in the framed bytes of what the typed lookup finds
@@ -51,30 +51,30 @@ pub typed-is : {A : Type 0} (number : List ℕ → Answer A) (s key : List ℕ) 
 typed-is number s key tag f v x g e q = rw (g, ← e, q)
 
 -- what is found: an element that a step at its place yields, and its value as it reads
-pub record Finds (limit : Limit) (s : List ℕ) (f : Found) : Type 0 where
+pub record FoundAt (limit : Limit) (s : List ℕ) (f : Found) : Type 0 where
   pub steps : stepUnder limit s (cursor (f .element .place) false) ≡ gives (yield (f .element))
   pub reads : valueOf s (f .element) ≡ gives (f .value)
 
 module _ (limit : Limit) (s key : List ℕ) (f : Found) where
-  onward-finds : (offset : ℕ) (x : Answer Step) (i : ℕ → Iteration) → ((next : ℕ) → first s key (i next) ≡ gives f → Finds limit s f)
-      → stepUnder limit s (cursor offset false) ≡ x → first s key (onward x i) ≡ gives f → Finds limit s f
+  onward-finds : (offset : ℕ) (x : Answer Step) (i : ℕ → Iteration) → ((next : ℕ) → first s key (i next) ≡ gives f → FoundAt limit s f)
+      → stepUnder limit s (cursor offset false) ≡ x → first s key (onward x i) ≡ gives f → FoundAt limit s f
   unfolding found
   onward-finds offset (gives (yield e)) i h y x =
       split (same key (bytes s (e .key)))
       (λ t. let (v, q, g) = then-gives (valueOf s e) _ (rw t at x) in
       let there = rw (← step-yields limit s (cursor offset false) e y .placed) at y in
-      subst (Finds limit s) (gives-injective g) (record { steps = there; reads = q }))
+      subst (FoundAt limit s) (gives-injective g) (record { steps = there; reads = q }))
       (λ t. h (past e) (rw t at x))
   onward-finds offset (gives end) i h y x = never x
   onward-finds offset (refuses n p) i h y x = never x
 
-  finds-for : (n offset : ℕ) → first s key (iterateFor limit n s offset) ≡ gives f → Finds limit s f
+  finds-for : (n offset : ℕ) → first s key (iterateFor limit n s offset) ≡ gives f → FoundAt limit s f
   unfolding iterateFor
   finds-for zero offset x = never x
   finds-for (suc n) offset x = onward-finds offset (stepUnder limit s (cursor offset false)) (iterateFor limit n s) (finds-for n) refl x
 
   module _ (x : getUnder limit s key ≡ gives f) where
-    pub get-finds : Finds limit s f
+    pub get-finds : FoundAt limit s f
     unfolding getUnder iterateUnder
     get-finds = finds-for (suc (length s)) 4 x
 

@@ -29,11 +29,11 @@ use Value.{Leaf, Value, leaf, asLeaf, bool, timestampOf, text, binaryValue, scop
 use Value.{string, code, symbol, dbPointer, readAt, partsOf}
 
 -- a part ends in a slice of this length
-abbrev pub Ends : ℕ → Part → Type 0
-Ends n p = p .offset + p .size ≤ n
+abbrev pub PartEnds : ℕ → Part → Type 0
+PartEnds n p = p .offset + p .size ≤ n
 
 abbrev pub BothEnd : ℕ → Value → Type 0
-BothEnd n v = Ends n (partsOf v .0) × Ends n (partsOf v .1)
+BothEnd n v = PartEnds n (partsOf v .0) × PartEnds n (partsOf v .1)
 
 module _ (n : ℕ) (v : Value) where
   -- of a value that is known, both parts

@@ -23,7 +23,7 @@ use Rattle.bson.specs.Level.{Opening, closed, opens, Level, outermost}
 use Rattle.bson.specs.Check.{Walk, keyPasses, visit, inside, opened, along, walkFor, walkUnder, checkUnder, check}
 use Rattle.bson.specs.Join.{Outcome, wrote, refused, Joined, passing, sizeOfBoth, bothPut, join}
 use Rattle.bson.specs.Writer.{room}
-use Rattle.laws.proofs.AnswerLaws.{oneOf, RefusesIn, given, by, then-in, unless-in, cond-in, at-in, refused-in, within, one-within, weaken, then-gives}
+use Rattle.laws.proofs.AnswerLaws.{oneOf, RefusesIn, given, by, then-in, unless-in, cond-in, at-in, refused-in, allIn, one-all-in, weaken, then-gives}
 use Rattle.laws.specs.FramedAt.{FramedAt}
 use Rattle.laws.proofs.StepLaws.{step-yields, Each, iterate-each}
 use Rattle.laws.proofs.CheckLaws.{visit-says}
@@ -113,7 +113,7 @@ scope-in v p =
     (then-in (weaken refl (admitted-in (drop (4 + n) v))) (λ k r. given))))
 
 -- a value, where the texts of a regex are refused by none but these numbers
-module _ (ms : List ℕ) (w : within contents ms ≡ true) (s : List ℕ) where
+module _ (ms : List ℕ) (w : allIn contents ms ≡ true) (s : List ℕ) where
   content-in : (p : Part) (t : ElementType) → (t ≡ RegularExpression → RefusesIn ms (patternOptions (bytes s p))) → RefusesIn ms (content s p t)
   unfolding content
   content-in p Boolean x = weaken w (then-in (bool-in (bytes s p)) (λ a q. given))
@@ -143,7 +143,7 @@ module _ (ms : List ℕ) (w : within contents ms ≡ true) (s : List ℕ) where
   value-by e x =
       let row : RefusesIn contents (typeOf (e .tag)) = then-in (weaken refl (row-in (e .tag))) (λ r q. given) in
       at-in (e .place)
-      (unless-in (leb (past e) (length s)) 9 (one-within contents ms 9 w refl)
+      (unless-in (leb (past e) (length s)) 9 (one-all-in contents ms 9 w refl)
       (then-in (weaken w row) (λ t q. content-in (e .value) t (λ j. x (q ∙ ap gives j)))))
 
 -- a value that a step yielded: its pattern and options have been asked
@@ -182,19 +182,19 @@ module _ (limit : Limit) where
   damage = 11 ∷ 12 ∷ 13 ∷ steps
 
 -- each list within the next, with and without a limit
-framings-steps : (limit : Limit) → within (framings limit) (steps limit) ≡ true
+framings-steps : (limit : Limit) → allIn (framings limit) (steps limit) ≡ true
 framings-steps unlimited = refl
 framings-steps (most m) = refl
 
-steps-reads : (limit : Limit) → within (steps limit) (reads limit) ≡ true
+steps-reads : (limit : Limit) → allIn (steps limit) (reads limit) ≡ true
 steps-reads unlimited = refl
 steps-reads (most m) = refl
 
-steps-damage : (limit : Limit) → within (steps limit) (damage limit) ≡ true
+steps-damage : (limit : Limit) → allIn (steps limit) (damage limit) ≡ true
 steps-damage unlimited = refl
 steps-damage (most m) = refl
 
-reads-typed : (limit : Limit) → within (reads limit) (typedReads limit) ≡ true
+reads-typed : (limit : Limit) → allIn (reads limit) (typedReads limit) ≡ true
 reads-typed unlimited = refl
 reads-typed (most m) = refl
 
@@ -294,7 +294,7 @@ module _ (limit : Limit) where
   first-in : (s key : List ℕ) (offset : ℕ) (i : Iteration) → Each s offset i → BreaksIn i → RefusesIn (reads limit) (first s key i)
   unfolding found
   first-in s key offset ended g h = by refl
-  first-in s key offset (broken n p) g h = by (one-within (steps limit) (reads limit) n (steps-reads limit) h)
+  first-in s key offset (broken n p) g h = by (one-all-in (steps limit) (reads limit) n (steps-reads limit) h)
   first-in s key offset (more e rest) g h =
       cond-in (same key (bytes s (e .key))) (then-in (weaken refl (yielded-in s _ e (g .0))) (λ v q. given)) (first-in s key (past e) rest (g .1) h)
 
@@ -315,7 +315,7 @@ abbrev pub checks : Limit → Bool → List ℕ
 checks limit false = damage limit
 checks limit true = 19 ∷ damage limit
 
-damage-within : (limit : Limit) (strict : Bool) → within (damage limit) (checks limit strict) ≡ true
+damage-within : (limit : Limit) (strict : Bool) → allIn (damage limit) (checks limit strict) ≡ true
 damage-within unlimited false = refl
 damage-within unlimited true = refl
 damage-within (most m) false = refl
@@ -329,7 +329,7 @@ key-in limit true l position key h = unless-in (keyPasses true l position key) 1
 
 module _ (limit : Limit) (strict : Bool) where
   damaged : (n : ℕ) → oneOf (damage limit) n ≡ true → oneOf (checks limit strict) n ≡ true
-  damaged n = one-within (damage limit) (checks limit strict) n (damage-within limit strict)
+  damaged n = one-all-in (damage limit) (checks limit strict) n (damage-within limit strict)
 
   visit-in : (s : List ℕ) (l : Level) (position : ℕ) (c : Cursor) (e : Element) → FramedAt s c e
       → RefusesIn (checks limit strict) (visit strict s l position e)
@@ -357,7 +357,7 @@ module _ (limit : Limit) (strict : Bool) where
     along-in : (l : Level) (position offset : ℕ) (i : Iteration) → Each s offset i → BreaksIn limit i
         → RefusesIn (checks limit strict) (along strict w s l position i)
     along-in l position offset ended g b = given
-    along-in l position offset (broken n p) g b = by (damaged n (one-within (steps limit) (damage limit) n (steps-damage limit) b))
+    along-in l position offset (broken n p) g b = by (damaged n (one-all-in (steps limit) (damage limit) n (steps-damage limit) b))
     along-in l position offset (more e rest) g b =
         then-in (opened-in l position (cursor offset false) e (g .0)) λ n q.
         then-in (along-in l (suc position) (past e) rest (g .1) b) (λ m r. given)

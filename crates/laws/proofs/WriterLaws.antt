@@ -84,7 +84,7 @@ unfolding innermost
 innermost-gives d kind i = rw (i .can, lt-ltb _ _ (i .some)) (i .kinded)
 
 -- and what it says of the sizes
-pub record Sizes (d : Desk) (kind : Kind) : Type 0 where
+pub record DeskSizes (d : Desk) (kind : Kind) : Type 0 where
   pub some : 0 < depth (d .state)
   pub most : depth (d .state) ≤ 202
   pub fits : used (d .state) + depth (d .state) ≤ roomOf d
@@ -96,8 +96,8 @@ pub record Sizes (d : Desk) (kind : Kind) : Type 0 where
 before-last : (i : ℕ) → 0 < i → i ≡ suc (i - 1)
 before-last i h = omega arith
 
-pub sizes : (d : Desk) (kind : Kind) → Innermost d kind → Sizes d kind
-sizes d kind i =
+pub desk-sizes : (d : Desk) (kind : Kind) → Innermost d kind → DeskSizes d kind
+desk-sizes d kind i =
     let w = d .state in
     let (a, b, c) = possible-says w (roomOf d) (i .can) in
     let (x, y, z) = stand-says w (depth w - 1) (used w) (subst (λ (k : ℕ). stand w k (used w) ≡ true) (before-last (depth w) (i .some)) c) in
@@ -280,7 +280,7 @@ closed-behind : (d e : Desk) → length (d .state) ≡ 406 → Closed d e → Be
 closed-behind d e h c =
     let w = d .state in
     let at = start w (depth w - 1) in
-    let s = sizes d (c .kind) (innermost-says d (c .kind) (c .inner)) in
+    let s = desk-sizes d (c .kind) (innermost-says d (c .kind) (c .inner)) in
     let l = length-bytes32 (used w + 1 - at) in
     let u = popped-used w h in
     let zero = put-behind d (popped w) (used w) (0 ∷ []) (omega (arith, s .within, s .some)) (omega arith) (omega arith) in

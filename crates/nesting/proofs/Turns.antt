@@ -15,7 +15,7 @@ use Rattle.bson.specs.Writer.{Desk, desk, appended, pushed, popped, openedTop, 
 use Rattle.laws.proofs.GrammarLaws.{length-bytes32}
 use Rattle.laws.proofs.OutputLaws.{text-fits}
 use Rattle.laws.proofs.WriterWords.{grown-depth}
-use Rattle.laws.proofs.WriterLaws.{room-within, innermost-says, Sizes, sizes, Appended, appended-says}
+use Rattle.laws.proofs.WriterLaws.{room-within, innermost-says, DeskSizes, desk-sizes, Appended, appended-says}
 use Rattle.laws.proofs.WriterRefusals.{appended-refused, accepted-from}
 use Rattle.appending.specs.Element.{appending}
 use Rattle.nesting.specs.Opened.{openedAs, pushedAt}
@@ -53,7 +53,7 @@ module _ (w : State) (buffer : List ℕ) (tag mark : ℕ) (key : List ℕ) (n : 
   opened-ready z =
       let a : Appended (desk w buffer) 1 tag key true (bytes32 5) (desk v exit)
       = appended-says (desk w buffer) 1 tag key true (bytes32 5) (desk v exit) (accepted z) in
-      let s = sizes (desk w buffer) (a .kind) (innermost-says (desk w buffer) (a .kind) (a .inner)) in
+      let s = desk-sizes (desk w buffer) (a .kind) (innermost-says (desk w buffer) (a .kind) (a .inner)) in
       let new = elementBytes tag (keyIn (a .kind) key) (bytes32 5) in
       let d : depth v ≡ depth w = ap (λ (d : Desk). depth (d .state)) (a .is) ∙ grown-depth w (a .kind) (length new) in
       omega (arith, a .low, s .some)
@@ -103,8 +103,8 @@ module _ (w : State) (buffer : List ℕ) (m : ℕ) (em : m ≡ room (length buff
     inner : innermost w (room (length buffer)) ≡ gives kind
     inner = ap (innermost w) (sym em) ∙ ei
 
-    known : Sizes (desk w buffer) kind
-    known = sizes (desk w buffer) kind (innermost-says (desk w buffer) kind inner)
+    known : DeskSizes (desk w buffer) kind
+    known = desk-sizes (desk w buffer) kind (innermost-says (desk w buffer) kind inner)
 
     pub closable : (0 < depth w) × (depth w ≤ 202)
     closable = (known .some, known .most)

@@ -13,7 +13,7 @@ use Rattle.laws.proofs.AnswerLaws.{oneOf}
 use Rattle.laws.proofs.WriterRefusals.{refused-number, unchanged}
 use Rattle.laws.proofs.WriterLaws.{bytes-behind}
 use Rattle.theorems.specs.ReadBack as readBack
-use Rattle.theorems.specs.ReadBack.{Building, unopened, built, Session, next, run, begin, Stands}
+use Rattle.theorems.specs.ReadBack.{Building, unopened, built, Session, sessionAfter, run, sessionStart, Stands}
 use Rattle.theorems.proofs.Writer.ReadBack.{writer-reads-back}
 use Rattle.doc_writer.specs.declared.DocWriter.{DocWriter}
 use Rattle.doc_writer.specs.declared.Written.{Written}
@@ -51,7 +51,7 @@ abbrev ended : Call → Building → writer.Written → Session
 ended c tree x = record { left = x .left; tree = afterTurn (x .number) c tree }
 
 next-ends : (c : Call) (s : Session) (x : Answer Desk) → ((n p : ℕ) → x ≡ refuses n p → oneOf (13 ∷ 14 ∷ 15 ∷ 18 ∷ []) n ≡ true)
-    → next c s x ≡ ended c (s .tree) (leaves (s .left) x)
+    → sessionAfter c s x ≡ ended c (s .tree) (leaves (s .left) x)
 next-ends c s (gives d) r = refl
 next-ends c s (refuses zero p) r = absurd (true≢false (sym (r zero p refl)))
 next-ends c s (refuses (suc n) p) r = refl
@@ -93,7 +93,7 @@ trace-runs (turn out w r c left tree cs t more) = ap (run cs) (turn-ends t tree)
 
 pub writer-trace-reads-back : WriterTraceReadsBack
 writer-trace-reads-back w buffer calls end (turns.news κs s promise) typed trace =
-    let begun : run calls (begin buffer) ≡ run calls (session w buffer unopened) = rw promise in
+    let begun : run calls (sessionStart buffer) ≡ run calls (session w buffer unopened) = rw promise in
     subst (λ (x : Session). Stands buffer (x .left) (x .tree)) (begun ∙ trace-runs trace) (writer-reads-back buffer calls typed)
 
 pub closed-reads-back : ClosedReadsBack

@@ -10,7 +10,7 @@ use Rattle.bson.specs.Grammar.{document, array, Elements}
 use Rattle.bson.specs.Value.{boolean, int32, int64, dateTime, double, timestamp, objectId, decimal128, string, code, symbol}
 use Rattle.bson.specs.Value.{null, undefined, minKey, maxKey, dbPointer, binary, regex}
 use Rattle.bson.specs.Writer.{desk, Call, openTop, close, append, openNest}
-use Rattle.theorems.specs.ReadBack.{Building, unopened, built, after, Session, Typed, ReadsBack, Stands}
+use Rattle.theorems.specs.ReadBack.{Building, unopened, built, treeAfter, Session, Typed, ReadsBack, Stands}
 use Rattle.doc_writer.specs.declared.DocWriter.{DocWriter}
 use Rattle.doc_writer.specs.declared.Written.{Written}
 use Rattle.doc_writer.proofs.new.Reads as new-reads
@@ -98,7 +98,7 @@ session w buffer tree = record { left = desk (w .words) buffer; tree = tree }
 
 -- a call answered 0 is an accepted one; any other gives no element
 abbrev pub afterTurn : ℕ → Call → Building → Building
-afterTurn zero c tree = after c tree
+afterTurn zero c tree = treeAfter c tree
 afterTurn (suc number) c tree = tree
 
 -- "each call given the buffer and the state that the one before left"

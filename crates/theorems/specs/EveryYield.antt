@@ -60,7 +60,7 @@ Met (broken number place) n p = (n ≡ number) × (p ≡ place)
 Met (more e rest) n p = OfElement e p ⊎ Met rest n p
 
 -- an iteration from offset 4 on
-pub record Told (limit : Limit) (s : List ℕ) (i : Iteration) : Type 0 where
+pub record IterationSays (limit : Limit) (s : List ℕ) (i : Iteration) : Type 0 where
   pub accounted : Accounted limit s 4 i
   pub add-up : AddUp s (extent (elements i)) i
   pub overrun : Overrun s 4 i
@@ -70,7 +70,7 @@ pub record Told (limit : Limit) (s : List ℕ) (i : Iteration) : Type 0 where
   pub refused : (strict : Bool) (number place : ℕ) → checkUnder limit strict s ≡ refuses number place → Met i number place
 
 pub record EveryYieldedByte (limit : Limit) (s : List ℕ) : Type 0 where
-  pub iteration : Told limit s (iterateUnder limit s 4)
+  pub iteration : IterationSays limit s (iterateUnder limit s 4)
   -- a step, wherever it begins
   pub steps : (c : Cursor) (e : Element) → stepUnder limit s c ≡ gives (yield e) → Lies s (c .offset) e
   -- a code with scope has as many value bytes as its length says, so one of length 0 to 3 "only those few"

@@ -18,8 +18,8 @@ pub record Open : Type 0 where
   pub key : List ℕ
   pub inside : Elements
 
-abbrev pub opened : Embedded → List ℕ → Elements → Open
-opened n key inside = record { nest = n; key = key; inside = inside }
+abbrev pub openOf : Embedded → List ℕ → Elements → Open
+openOf n key inside = record { nest = n; key = key; inside = inside }
 
 -- the tree of the elements given: not begun, with its open documents, innermost first, or closed
 pub data Building : Type 0 where
@@ -28,24 +28,24 @@ pub data Building : Type 0 where
   built : Elements → Building
 
 abbrev pub with : Open → Elements → Open
-with o t = opened (o .nest) (o .key) (behind (o .inside) t)
+with o t = openOf (o .nest) (o .key) (behind (o .inside) t)
 
 -- "inside an array it makes the keys itself, 0, 1, 2 on in decimal"
 abbrev pub keyFor : Open → List ℕ → List ℕ
 keyFor o key = cond (isArray (embedded (o .nest))) (decimal (count (o .inside))) key
 
 -- what an accepted call makes of the tree
-abbrev pub after : Call → Building → Building
-after openTop unopened = building (opened document [] none) []
-after (append key v) (building o around) = building (with o (leaf (keyFor o key) v none)) around
-after (openNest n key) (building o around) = building (opened n (keyFor o key) none) (o ∷ around)
-after close (building o []) = built (o .inside)
-after close (building o (p ∷ around)) = building (with p (nest (embedded (o .nest)) (o .key) (o .inside) none)) around
-after openTop (building o around) = building o around
-after c (built t) = built t
-after (append key v) unopened = unopened
-after (openNest n key) unopened = unopened
-after close unopened = unopened
+abbrev pub treeAfter : Call → Building → Building
+treeAfter openTop unopened = building (openOf document [] none) []
+treeAfter (append key v) (building o around) = building (with o (leaf (keyFor o key) v none)) around
+treeAfter (openNest n key) (building o around) = building (openOf n (keyFor o key) none) (o ∷ around)
+treeAfter close (building o []) = built (o .inside)
+treeAfter close (building o (p ∷ around)) = building (with p (nest (embedded (o .nest)) (o .key) (o .inside) none)) around
+treeAfter openTop (building o around) = building o around
+treeAfter c (built t) = built t
+treeAfter (append key v) unopened = unopened
+treeAfter (openNest n key) unopened = unopened
+treeAfter close unopened = unopened
 
 -- "each call given the buffer and the state that the one before left"
 pub record Session : Type 0 where
@@ -53,20 +53,20 @@ pub record Session : Type 0 where
   pub tree : Building
 
 -- a refused call leaves all as it was
-abbrev pub next : Call → Session → Answer Desk → Session
-next c s (gives d) = record { left = d; tree = after c (s .tree) }
-next c s (refuses n p) = s
+abbrev pub sessionAfter : Call → Session → Answer Desk → Session
+sessionAfter c s (gives d) = record { left = d; tree = treeAfter c (s .tree) }
+sessionAfter c s (refuses n p) = s
 
 abbrev pub turn : Call → Session → Session
-turn c s = next c s (answer c (s .left))
+turn c s = sessionAfter c s (answer c (s .left))
 
 abbrev pub run : List Call → Session → Session
 run [] s = s
 run (c ∷ cs) s = run cs (turn c s)
 
 -- "begun fresh"
-abbrev pub begin : List ℕ → Session
-begin buffer = record { left = desk fresh buffer; tree = unopened }
+abbrev pub sessionStart : List ℕ → Session
+sessionStart buffer = record { left = desk fresh buffer; tree = unopened }
 
 -- what a call is given fits its type
 abbrev pub Typed : List Call → Type 0
@@ -99,7 +99,7 @@ Stands buffer d (built t) = ReadsBack d t
 -- given"
 abbrev pub WriterReadsBack : Type 0
 WriterReadsBack = (buffer : List ℕ) (calls : List Call) → Typed calls
-    → Stands buffer (run calls (begin buffer) .left) (run calls (begin buffer) .tree)
+    → Stands buffer (run calls (sessionStart buffer) .left) (run calls (sessionStart buffer) .tree)
 
 -- a tree without code with scope, which the writer does not make
 abbrev pub Unscoped : Elements → Type 0
@@ -119,9 +119,9 @@ pub record Writable (t : Elements) : Type 0 where
 pub record Builds (t : Elements) (buffer : List ℕ) : Type 0 where
   pub calls : List Call
   pub typed : Typed calls
-  pub accepted : Accepted calls (begin buffer)
-  pub finished : run calls (begin buffer) .tree ≡ built t
-  pub whole : run calls (begin buffer) .left .buffer ≡ treeBytes t
+  pub accepted : Accepted calls (sessionStart buffer)
+  pub finished : run calls (sessionStart buffer) .tree ≡ built t
+  pub whole : run calls (sessionStart buffer) .left .buffer ≡ treeBytes t
 
 abbrev pub WriterBuilds : Type 0
 WriterBuilds = (t : Elements) → Writable t → (buffer : List ℕ) → length buffer ≡ length (treeBytes t) → Builds t buffer

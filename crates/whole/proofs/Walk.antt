@@ -19,7 +19,7 @@ use Rattle.laws.specs.FramedAt.{FramedAt}
 use Rattle.laws.proofs.StepLaws.{step-yields}
 use Rattle.laws.proofs.AdvanceLaws.{step-unadmitted, refused-place}
 use Rattle.laws.proofs.OpenLaws.{value-opens}
-use Rattle.laws.proofs.CheckLaws.{visit-says, walk-from, walk-eq, walk-ends, walk-refused, walk-onward}
+use Rattle.laws.proofs.CheckLaws.{visit-says, walkFrom, walk-eq, walk-ends, walk-refused, walk-onward}
 use Rattle.visit.specs.declared.Opening as declared
 use Rattle.visit.specs.Said.{saidOpening, saidVisited}
 use Rattle.visit.specs.declared.Visited.{Visited}
@@ -100,7 +100,7 @@ visited-refused p a r n e q = answered (saidVisited p) e q
 
 -- the walk is what is left of it from an offset on, and the values counted before
 abbrev pub LeftFrom : Limit → Bool → List ℕ → Level → ℕ → ℕ → ℕ → Type 0
-LeftFrom limit strict s l offset count position = walkUnder limit strict s l ≡ (then (walk-from limit strict s l position offset) λ n. gives (count + n))
+LeftFrom limit strict s l offset count position = walkUnder limit strict s l ≡ (then (walkFrom limit strict s l position offset) λ n. gives (count + n))
 
 then-again : (x : Answer ℕ) → x ≡ (then x λ n. gives (0 + n))
 then-again (gives n) = ap gives (omega arith)
@@ -122,7 +122,7 @@ module _ (limit : Limit) (strict : Bool) (s : List ℕ) (l : Level) (offset coun
 
     pub left-onward : (values : ℕ) → gives values ≡ opened strict (walkUnder limit strict) s l position e
         → LeftFrom limit strict s l (past e) (count + values) (suc position)
-    left-onward values o = left ∙ rw (walk-onward limit strict s l position offset e y, ← o) (counted (walk-from limit strict s l (suc position) (past e)))
+    left-onward values o = left ∙ rw (walk-onward limit strict s l position offset e y, ← o) (counted (walkFrom limit strict s l (suc position) (past e)))
       where
         counted : (x : Answer ℕ) → (then (then x λ m. gives (values + m)) λ n. gives (count + n)) ≡ (then x λ n. gives (count + values + n))
         counted (gives n) = ap gives (omega arith)

@@ -14,7 +14,7 @@ use Rattle.laws.proofs.AnswerLaws.{answered}
 use Rattle.laws.proofs.BytesLaws.{slice-part}
 use Rattle.laws.proofs.Common.{rest-part}
 use Rattle.laws.proofs.StepLaws.{step-yields}
-use Rattle.laws.proofs.LookupLaws.{search-from, search-ends, search-refused, search-found, search-onward}
+use Rattle.laws.proofs.LookupLaws.{searchFrom, search-ends, search-refused, search-found, search-onward}
 use Rattle.cstr.specs.Said.{limitOf}
 use Rattle.iter.specs.Said.{sized, saidSizes}
 use borrow.Author.Needs.{needs}
@@ -28,7 +28,7 @@ upToZero s start size = take (start + size - start) (drop start s)
 -- the loop goes over `whole`, which is all of the slice
 record Searching (limit : Limit) (s key whole : List ℕ) (offset : ℕ) : Type 0 where
   all : whole ≡ s
-  left : search-from limit s key offset ≡ getUnder limit s key
+  left : searchFrom limit s key offset ≡ getUnder limit s key
 
 module _ (limit : Limit) (s key whole : List ℕ) (offset : ℕ) (i : Searching limit s key whole offset) where
   ends : stepUnder limit whole (cursor offset false) ≡ gives end → refuses 16 offset ≡ getUnder limit s key

@@ -21,7 +21,7 @@ use Rattle.laws.proofs.Common.{split}
 use Rattle.laws.proofs.BytesLaws.{same-eq}
 use Rattle.laws.proofs.StepLaws.{step-yields, step-admits}
 use Rattle.laws.proofs.AdvanceLaws.{step-ended, ended-at}
-use Rattle.laws.proofs.LookupLaws.{search-from, search-ends, search-found, search-onward, get-finds}
+use Rattle.laws.proofs.LookupLaws.{searchFrom, search-ends, search-found, search-onward, get-finds}
 use Rattle.theorems.proofs.Check.Spots.{Walked, ended, more, walked-says, accepted-onward, comes-accepted}
 use Rattle.theorems.proofs.Check.FirstOfKey.{among-yields, first-one, Without, without-next}
 use Rattle.bson.specs.Cstring.{Limit}
@@ -91,7 +91,7 @@ module _ (limit : Limit) where
 
       -- the search from an offset on, where no element before has the key
       search-says : (m offset : ℕ) → length d - offset < m → From limit d offset → Without limit d key offset
-          → (x : Step) → stepUnder limit d (cursor offset false) ≡ gives x → Says d key (search-from limit d key offset)
+          → (x : Step) → stepUnder limit d (cursor offset false) ≡ gives x → Says d key (searchFrom limit d key offset)
       unfolding found
       search-says zero offset i q w x y = absurd (omega arith)
       search-says (suc m) offset i q w end y =

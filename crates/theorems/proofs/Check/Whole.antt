@@ -19,7 +19,7 @@ use Rattle.laws.proofs.Common.{split}
 use Rattle.laws.proofs.StepLaws.{step-admits, step-yields}
 use Rattle.laws.proofs.AdvanceLaws.{step-ends, ended-at}
 use Rattle.laws.proofs.CheckLaws.{walk-eq}
-use Rattle.theorems.proofs.Check.Spots.{walkAt, left, Inner, plain, deep, Opened, Walked, ended, more, walked-says, walked-gives}
+use Rattle.theorems.proofs.Check.Spots.{spotWalk, bytesLeft, Inner, plain, deep, OpenedAt, Walked, ended, more, walked-says, walked-gives}
 use Rattle.theorems.proofs.Check.Spots.{opens-deeper, Onward, accepted-onward, comes-accepted}
 use Rattle.theorems.proofs.Check.FirstOfKey.{ends-next}
 use Rattle.bson.specs.Cstring.{Limit}
@@ -38,7 +38,7 @@ module _ (limit : Limit) where
   walked-admitted strict σ n (ended q) = step-admits limit _ _ end q
   walked-admitted strict σ n (more e k m y o w) = step-admits limit _ _ (yield e) y
 
-  walked-ends : (f : ℕ) (strict : Bool) (σ : Spot) (n : ℕ) → left σ < f → Walked limit strict σ n → Ends limit (σ .document) (σ .offset)
+  walked-ends : (f : ℕ) (strict : Bool) (σ : Spot) (n : ℕ) → bytesLeft σ < f → Walked limit strict σ n → Ends limit (σ .document) (σ .offset)
   walked-ends zero strict σ n l w = absurd (omega arith)
   walked-ends (suc f) strict σ n l (ended q) = here (ended-at limit (σ .document) (σ .offset) q)
   walked-ends (suc f) strict σ n l (more e k m y o w) =
@@ -47,7 +47,7 @@ module _ (limit : Limit) where
 
   -- a slice that a check passes is whole, and its keys pass
   module _ (strict : Bool) (s : List ℕ) (n : ℕ) (passed : checkUnder limit strict s ≡ gives n) where
-    accepted : (σ : Spot) → Comes limit s σ → (m : ℕ) × (walkAt limit strict σ ≡ gives m)
+    accepted : (σ : Spot) → Comes limit s σ → (m : ℕ) × (spotWalk limit strict σ ≡ gives m)
     accepted = comes-accepted limit strict s n passed
 
     reached : (σ : Spot) (x : Reachable limit s σ) → (m : ℕ) × Onward limit strict σ (x .element) m
@@ -90,9 +90,9 @@ module _ (limit : Limit) where
     Counts P = (n : ℕ) × ((strict : Bool) → KeysPass strict s → P strict n)
 
     abbrev CountsAt : Spot → Type 0
-    CountsAt σ = Counts (λ strict n. walkAt limit strict σ ≡ gives n)
+    CountsAt σ = Counts (λ strict n. spotWalk limit strict σ ≡ gives n)
 
-    module _ (σ : Spot) (c : Comes limit s σ) (ih : (τ : Spot) → Comes limit s τ → left τ < left σ → CountsAt τ) where
+    module _ (σ : Spot) (c : Comes limit s σ) (ih : (τ : Spot) → Comes limit s τ → bytesLeft τ < bytesLeft σ → CountsAt τ) where
       inner-counts : (e : Element) (v : Value) → YieldsAt limit σ e → valueOf (σ .document) e ≡ gives v
           → (o : Opening) → opening v ≡ o → Counts (λ strict n. Inner limit strict σ o n)
       inner-counts e v y x closed q = (1, λ strict k. plain)
@@ -101,7 +101,7 @@ module _ (limit : Limit) where
           let (n, w) = ih (within σ isArray levels p) (into v isArray levels p c (read-step limit (σ .document) (σ .offset) e y ∙ x) q) (omega arith) in
           (1 + n, λ strict k. deep isArray levels p n (w strict k))
 
-      opened-counts : (e : Element) → YieldsAt limit σ e → Counts (λ strict n. Opened limit strict σ e n)
+      opened-counts : (e : Element) → YieldsAt limit σ e → Counts (λ strict n. OpenedAt limit strict σ e n)
       opened-counts e y =
           let r : Reachable limit s σ = record { comes = c; element = e; yields = y } in
           let (v, x) = whole .reads σ r in
@@ -124,7 +124,7 @@ module _ (limit : Limit) where
           let (m, w) = ih (behind σ e) (next e c y) (omega arith) in
           (n + m, λ strict k. walked-gives limit strict σ (n + m) (more e n m y (o strict k) (w strict k)))
 
-    comes-counts : (f : ℕ) (σ : Spot) → Comes limit s σ → left σ < f → CountsAt σ
+    comes-counts : (f : ℕ) (σ : Spot) → Comes limit s σ → bytesLeft σ < f → CountsAt σ
     comes-counts zero σ c l = absurd (omega arith)
     comes-counts (suc f) σ c l =
         spot-counts σ c (λ τ d i. comes-counts f τ d (omega arith)) (stepUnder limit (σ .document) (cursor (σ .offset) false)) refl

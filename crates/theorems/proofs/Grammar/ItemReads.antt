@@ -52,20 +52,20 @@ pub record Reads (s : List ℕ) (offset tag : ℕ) (value back : List ℕ) (h : 
   pub holds : holding s found ≡ h
 
 module _ (s : List ℕ) (offset : ℕ) (value back : List ℕ) (here : drop offset s ≡ value ++ back) (inside : offset + length value ≤ length s) where
-  abbrev here-part : Part
-  here-part = part offset (length value)
+  abbrev herePart : Part
+  herePart = part offset (length value)
 
-  pub here-bytes : bytes s here-part ≡ value
+  pub here-bytes : bytes s herePart ≡ value
   here-bytes = bytes-here s offset value back here (length value) refl
 
   -- a type that has this tag frames and reads them
   pub typed-value : (tag : ℕ) (h : Holding) (t : ElementType) → typeOf tag ≡ gives t → framed (sizeFor t) (value ++ back) ≡ gives (length value)
-      → (x : Value) → content s here-part t ≡ gives x → holding s x ≡ h → Reads s offset tag value back h
+      → (x : Value) → content s herePart t ≡ gives x → holding s x ≡ h → Reads s offset tag value back h
   typed-value tag h t tagged f x c i =
-      record { sized = sized-by tag t _ tagged ∙ f; found = x; reads = value-by s tag t here-part tagged inside ∙ c; holds = i }
+      record { sized = sized-by tag t _ tagged ∙ f; found = x; reads = value-by s tag t herePart tagged inside ∙ c; holds = i }
 
   typed : (tag : ℕ) (item : Item) (t : ElementType) → typeOf tag ≡ gives t → framed (sizeFor t) (value ++ back) ≡ gives (length value)
-      → (x : Leaf) → content s here-part t ≡ gives (leaf x) → held s x ≡ item → Reads s offset tag value back (single item)
+      → (x : Leaf) → content s herePart t ≡ gives (leaf x) → held s x ≡ item → Reads s offset tag value back (single item)
   typed tag item t tagged f x c h = typed-value tag (single item) t tagged f (leaf x) c (ap single h)
 
 module _ (s : List ℕ) (offset : ℕ) (t rest : List ℕ) (here : drop offset s ≡ stringBytes t ++ rest) where

@@ -15,7 +15,7 @@ use Rattle.theorems.specs.OneMeaning.{Frame, OneTree, OneMeaning}
 use Rattle.theorems.proofs.Check.Spots.{comes-accepted}
 use Rattle.theorems.proofs.Grammar.EveryByte.{every-byte}
 use Rattle.theorems.proofs.Check.Whole.{check-passes}
-use Rattle.theorems.proofs.Grammar.TreeReads.{means-back}
+use Rattle.theorems.proofs.Grammar.TreeReads.{tree-means}
 use Rattle.theorems.proofs.Grammar.Unique.{tree-injective}
 use Rattle.theorems.proofs.Grammar.TreePasses.{KeysAsked, plain-asked, means-passes}
 use Rattle.theorems.proofs.Grammar.ReadTree.{meant-bytes}
@@ -33,7 +33,7 @@ module _ (strict : Bool) (s : List ℕ) (n : ℕ) where
 
   frame-passes : (t : Elements) → Frame s n t → KeysAsked strict false 0 t → check strict s ≡ gives n
   frame-passes t f k =
-      rw (← f .bytes, ← f .counts) (means-passes strict (treeBytes t) t (means-back t (f .good)) (f .shallow) k)
+      rw (← f .bytes, ← f .counts) (means-passes strict (treeBytes t) t (tree-means t (f .good)) (f .shallow) k)
 
 same-tree : (s s′ : List ℕ) (t : Elements) → AreBytes s → AreBytes s′ → Means s t → Means s′ t → s ≡ s′
 same-tree s s′ t a b m k = sym (meant-bytes s t a m .1) ∙ meant-bytes s′ t b k .1
@@ -71,7 +71,7 @@ one-meaning =
         (λ x. frame-passes true s n (x .0) (x .1) (λ q. x .2)),
       );
       injective = tree-injective;
-      reads = means-back;
+      reads = tree-means;
       meant = meant-bytes;
       same = same-tree;
       throughout = passed-throughout;

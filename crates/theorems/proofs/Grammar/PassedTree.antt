@@ -19,7 +19,7 @@ use Rattle.laws.proofs.StepLaws.{step-yields}
 use Rattle.laws.proofs.AdvanceLaws.{ended-at}
 use Rattle.laws.proofs.CheckLaws.{Visited, walk-eq}
 use Rattle.laws.proofs.GrammarBack.{bytes-are}
-use Rattle.theorems.proofs.Check.Spots.{walkAt, left, Inner, plain, deep, Walked, ended, more, walked-says, opens-deeper}
+use Rattle.theorems.proofs.Check.Spots.{spotWalk, bytesLeft, Inner, plain, deep, Walked, ended, more, walked-says, opens-deeper}
 use Rattle.theorems.proofs.Grammar.ItemBytes.{CodesOf, element-codes}
 use Rattle.theorems.proofs.Grammar.TreePasses.{KeysAsked, openingOf, holding-opens}
 use Rattle.bson.specs.Cstring.{unlimited}
@@ -51,7 +51,7 @@ module _ (strict : Bool) (σ : Spot) (are : AreBytes (σ .document)) (e : Elemen
       record { steps = y; keyed = refl; tagged = t; value = v .value; reads = read-step unlimited (σ .document) (σ .offset) e y ∙ v .reads; holds = q }
 
   in-front : (h : Holding) → holding (σ .document) (v .value) ≡ h
-      → ((n : Nest) (p : Part) (j : ℕ) → h ≡ nested n p → walkAt unlimited strict (within σ (isArray n) (levels n) p) ≡ gives j
+      → ((n : Nest) (p : Part) (j : ℕ) → h ≡ nested n p → spotWalk unlimited strict (within σ (isArray n) (levels n) p) ≡ gives j
       → Tree strict (within σ (isArray n) (levels n) p) j)
       → (k : ℕ) → Inner unlimited strict σ (openingOf h) k → Tree strict σ (k + m)
   in-front (single item) q inner k plain =
@@ -72,7 +72,7 @@ module _ (strict : Bool) (σ : Spot) (are : AreBytes (σ .document)) (e : Elemen
         counted = omega (arith, i .counted, rest .counted);
       }
 
-tree-walked : (f : ℕ) (strict : Bool) (σ : Spot) (n : ℕ) → AreBytes (σ .document) → left σ < f → Walked unlimited strict σ n → Tree strict σ n
+tree-walked : (f : ℕ) (strict : Bool) (σ : Spot) (n : ℕ) → AreBytes (σ .document) → bytesLeft σ < f → Walked unlimited strict σ n → Tree strict σ n
 tree-walked zero strict σ n are l w = absurd (omega arith)
 tree-walked (suc f) strict σ n are l (ended q) =
     record { tree = none; means = ends (ended-at unlimited (σ .document) (σ .offset) q) q; shallow = tt; asked = λ s. tt; counted = refl }
@@ -88,8 +88,8 @@ tree-walked (suc f) strict σ n are l (more e k m y o w) =
     k inner
 
 -- from any spot that is accepted
-pub accepted-tree : (strict : Bool) (σ : Spot) (n : ℕ) → AreBytes (σ .document) → walkAt unlimited strict σ ≡ gives n → Tree strict σ n
-accepted-tree strict σ n are w = tree-walked (suc (left σ)) strict σ n are (omega arith) (walked-says unlimited strict σ n w)
+pub accepted-tree : (strict : Bool) (σ : Spot) (n : ℕ) → AreBytes (σ .document) → spotWalk unlimited strict σ ≡ gives n → Tree strict σ n
+accepted-tree strict σ n are w = tree-walked (suc (bytesLeft σ)) strict σ n are (omega arith) (walked-says unlimited strict σ n w)
 
 pub passed-tree : (strict : Bool) (s : List ℕ) (n : ℕ) → AreBytes s → check strict s ≡ gives n → Tree strict (start s outermost) n
 unfolding checkUnder

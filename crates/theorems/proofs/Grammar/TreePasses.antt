@@ -16,8 +16,8 @@ use Rattle.bson.specs.Meaning.{Holding, single, nested, holding, Yields, MeansF
 use Rattle.bson.specs.Reach.{Spot, behind}
 use Rattle.laws.proofs.Common.{split}
 use Rattle.laws.proofs.ReadLaws.{read-step}
-use Rattle.laws.proofs.CheckLaws.{walk-from, walk-eq, walk-ends}
-use Rattle.theorems.proofs.Check.Spots.{walkAt, Inner, plain, deep, more, walked-gives}
+use Rattle.laws.proofs.CheckLaws.{walkFrom, walk-eq, walk-ends}
+use Rattle.theorems.proofs.Check.Spots.{spotWalk, Inner, plain, deep, more, walked-gives}
 use Rattle.bson.specs.Cstring.{unlimited}
 
 -- what a check asks of the keys in arrays: the plain one nothing
@@ -51,7 +51,7 @@ spot s l position offset = record { document = s; level = l; position = position
 yields-passes : (strict : Bool) (σ : Spot) {key : List ℕ} {tag : ℕ} {h : Holding} (e : Element) (n m : ℕ)
     → Yields (σ .document) (σ .offset) key tag h e → σ .level .depth ≤ 200
     → (strict ≡ true → σ .level .isArray ≡ true → goodArrayKey (σ .position) key ≡ true)
-    → Inner unlimited strict σ (openingOf h) n → walkAt unlimited strict (behind σ e) ≡ gives m → walkAt unlimited strict σ ≡ gives (n + m)
+    → Inner unlimited strict σ (openingOf h) n → spotWalk unlimited strict (behind σ e) ≡ gives m → spotWalk unlimited strict σ ≡ gives (n + m)
 yields-passes strict σ {h = h} e n m y low key i w =
     let reads = sym (read-step unlimited (σ .document) (σ .offset) e (y .steps)) ∙ y .reads in
     let is = holding-opens (σ .document) (y .value) ∙ ap openingOf (y .holds) in
@@ -64,7 +64,7 @@ yields-passes strict σ {h = h} e n m y low key i w =
 
 -- at any level, from any element on
 from-passes : (strict : Bool) (s : List ℕ) (offset : ℕ) (t : Elements) → MeansFrom s offset t → (l : Level) (position : ℕ) → Shallow (l .depth) t
-    → KeysAsked strict (l .isArray) position t → walk-from unlimited strict s l position offset ≡ gives (size t)
+    → KeysAsked strict (l .isArray) position t → walkFrom unlimited strict s l position offset ≡ gives (size t)
 from-passes strict s offset t (ends at e) l position h k = walk-ends unlimited strict s l position offset e
 from-passes strict s offset t (yields {rest = rest} e y m) l position h k =
     yields-passes strict (spot s l position offset) e 1 (size rest) y (h .0) (λ q. k q .0) plain

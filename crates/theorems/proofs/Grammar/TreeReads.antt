@@ -61,8 +61,8 @@ means-from (nest n key inner rest) s offset g a small low here =
     opens (w .inner) (elementHere offset tag key value) y (subst (λ (d : List ℕ). MeansFrom d 4 inner) (sym (w .whole)) i)
     (means-from rest s _ (g .1 .1 .1) a small (omega arith) (next-here s offset tag key value back start))
 
-pub means-back : (t : Elements) → Good t → Means (treeBytes t) t
-means-back t g =
+pub tree-means : (t : Elements) → Good t → Means (treeBytes t) t
+tree-means t g =
     let l = length-document (listBytes t) in
     let h = g .fits in
     let short : length (listBytes t) + 5 < 2147483648 = omega arith in

@@ -9,7 +9,7 @@ use Rattle.bson.specs.Step.{Element, past}
 use Rattle.bson.specs.Grammar.{Item, Nest, Elements, treeBytes, Good}
 use Rattle.bson.specs.Meaning.{Holding, single, nested, holding, Yields, MeansFrom, ends, yields, opens, Means}
 use Rattle.laws.proofs.AnswerLaws.{gives-injective}
-use Rattle.theorems.proofs.Grammar.TreeReads.{means-back}
+use Rattle.theorems.proofs.Grammar.TreeReads.{tree-means}
 use Rattle.theorems.proofs.Check.Spots.{one-element, end-no-element}
 use Rattle.bson.specs.Cstring.{unlimited}
 
@@ -52,4 +52,4 @@ pub means-unique : (s : List ℕ) (t u : Elements) → Means s t → Means s u �
 means-unique s t u m k = from-unique s 4 t u m k
 
 pub tree-injective : (t u : Elements) → Good t → Good u → treeBytes t ≡ treeBytes u → t ≡ u
-tree-injective t u g h same = means-unique (treeBytes t) t u (means-back t g) (rw same (means-back u h))
+tree-injective t u g h same = means-unique (treeBytes t) t u (tree-means t g) (rw same (tree-means u h))

@@ -13,8 +13,8 @@ use Rattle.bson.specs.Decimal.{decimal}
 use Rattle.bson.specs.Grammar.{Item, row, Embedded, document, embedded, scope, isArray, Elements, none, leaf, nest, elementBytes, listBytes}
 use Rattle.bson.specs.Grammar.{treeBytes, Shallow, InOrder, Numbered, behind, count}
 use Rattle.bson.specs.Writer.{fresh, used, room, Desk, desk, roomOf, Call, openTop, close, append, openNest, answer}
-use Rattle.theorems.specs.ReadBack.{Open, opened, Building, building, built, with, keyFor, after, Session, next, turn}
-use Rattle.theorems.specs.ReadBack.{run, begin, Typed, Accepted, Unscoped, Writable, Builds, WriterBuilds}
+use Rattle.theorems.specs.ReadBack.{Open, openOf, Building, building, built, with, keyFor, treeAfter, Session, sessionAfter, turn}
+use Rattle.theorems.specs.ReadBack.{run, sessionStart, Typed, Accepted, Unscoped, Writable, Builds, WriterBuilds}
 use Rattle.laws.proofs.Common.{split}
 use Rattle.laws.proofs.GrammarLaws.{length-document}
 use Rattle.laws.proofs.WriterWords.{fresh-words}
@@ -34,8 +34,8 @@ record Leads (s : Session) (calls : List Call) (t : Session) : Type 0 where
   accepted : Accepted calls s
   leaves : run calls s ≡ t
 
-leads-one : (c : Call) (s t : Session) (e : Desk) → answer c (s .left) ≡ gives e → session e (after c (s .tree)) ≡ t → Leads s (c ∷ []) t
-leads-one c s t e x i = record { accepted = ((e, x), tt); leaves = ap (next c s) x ∙ i }
+leads-one : (c : Call) (s t : Session) (e : Desk) → answer c (s .left) ≡ gives e → session e (treeAfter c (s .tree)) ≡ t → Leads s (c ∷ []) t
+leads-one c s t e x i = record { accepted = ((e, x), tt); leaves = ap (sessionAfter c s) x ∙ i }
 
 leads-both : (calls more : List Call) (s t u : Session) → Leads s calls t → Leads t more u → Leads s (calls ++ more) u
 leads-both [] more s t u l m = subst (λ (x : Session). Leads x more u) (sym (l .leaves)) m
@@ -89,7 +89,7 @@ reaches-both calls more s o p around across r q =
     }
 
 reaches-one : (c : Call) (s : Session) (e : Desk) (o : Open) (around : List Open) → length (s .left .state) ≡ 406 → answer c (s .left) ≡ gives e
-    → after c (s .tree) ≡ building o around → Holds e (o ∷ around) → Reaches s (c ∷ []) o around
+    → treeAfter c (s .tree) ≡ building o around → Holds e (o ∷ around) → Reaches s (c ∷ []) o around
 reaches-one c s e o around w x i h =
     record { end = e; leads = leads-one c s _ e x (ap (session e) i); holds = h; kept = bytes-behind c (s .left) e w x .long }
 
@@ -104,10 +104,10 @@ module _ (d : Desk) (o : Open) (around : List Open) (h : Holds d (o ∷ around))
 
   nest-opened : (n : Embedded) (key : List ℕ) → keyFor o key ≡ key → length around ≤ 200 → validCstr key ≡ true
       → used (d .state) + (6 + length key) + (suc (length around) + 1) ≤ roomOf d
-      → Reaches (session d (building o around)) (openNest n key ∷ []) (opened n key none) (o ∷ around)
+      → Reaches (session d (building o around)) (openNest n key ∷ []) (openOf n key none) (o ∷ around)
   nest-opened n key k deep valid fits =
       let (e, x) = nest-taken d o around h n key k deep valid fits in
-      subst (λ (k : List ℕ). Reaches (session d (building o around)) (openNest n key ∷ []) (opened n k none) (o ∷ around)) k
+      subst (λ (k : List ℕ). Reaches (session d (building o around)) (openNest n key ∷ []) (openOf n k none) (o ∷ around)) k
       (reaches-one (openNest n key) _ e _ (o ∷ around) (h .words) x refl (open-holds d e o around n key h x))
 
 nest-closed : (d : Desk) (o p : Open) (around : List Open) → Holds d (o ∷ p ∷ around) → length around ≤ 200
@@ -133,13 +133,13 @@ nest-given : (n : Embedded) (key : List ℕ) (inner : Elements) (d : Desk) (o : 
     → Reaches (session d (building o around)) (openNest n key ∷ (callsOf inner ++ (close ∷ []))) (with o (nest (embedded n) key inner none)) around
 nest-given n key inner d o around grow h k deep valid good plain numbered shallow fits =
     let m = many h in
-    let begun = shown-nested (opened n key none) o around in
-    let ended = shown-nested (opened n key inner) o around in
+    let begun = shown-nested (openOf n key none) o around in
+    let ended = shown-nested (openOf n key inner) o around in
     let r = nest-opened d o around h n key k deep valid (omega arith) in
     let (i, u) = reached r in
-    let q = grow (r .end) (opened n key none) (o ∷ around) (r .holds) good plain numbered (rw add-one at shallow) (omega (arith, none-length)) in
+    let q = grow (r .end) (openOf n key none) (o ∷ around) (r .holds) good plain numbered (rw add-one at shallow) (omega (arith, none-length)) in
     let (j, v) = reached q in
-    let c = nest-closed (q .end) (opened n key inner) o around (q .holds) deep (omega arith) in
+    let c = nest-closed (q .end) (openOf n key inner) o around (q .holds) deep (omega arith) in
     reaches-both (openNest n key ∷ []) (callsOf inner ++ (close ∷ [])) _ _ _ _ _ r (reaches-both (callsOf inner) (close ∷ []) _ _ _ _ _ q c)
 
 -- and the rest behind one element
@@ -177,18 +177,18 @@ grows (nest (embedded n) key inner rest) d o around h good plain numbered shallo
 
 -- the top opened, and closed again
 
-top-opened : (buffer : List ℕ) → 5 ≤ roomOf (desk fresh buffer) → Reaches (begin buffer) (openTop ∷ []) (opened document [] none) []
+top-opened : (buffer : List ℕ) → 5 ≤ roomOf (desk fresh buffer) → Reaches (sessionStart buffer) (openTop ∷ []) (openOf document [] none) []
 top-opened buffer fits =
     let (e, x) = top-taken buffer fits in
-    reaches-one openTop (begin buffer) e (opened document [] none) [] fresh-words x refl (top-holds buffer e x)
+    reaches-one openTop (sessionStart buffer) e (openOf document [] none) [] fresh-words x refl (top-holds buffer e x)
 
-module _ (t : Elements) (buffer : List ℕ) (calls : List Call) (r : Reaches (begin buffer) calls (opened document [] t) []) where
-  top-closed : (e : Desk) → answer close (r .end) ≡ gives e → Leads (begin buffer) (calls ++ (close ∷ [])) (session e (built t))
-  top-closed e x = leads-both calls (close ∷ []) (begin buffer) _ _ (r .leads) (leads-one close _ _ e x refl)
+module _ (t : Elements) (buffer : List ℕ) (calls : List Call) (r : Reaches (sessionStart buffer) calls (openOf document [] t) []) where
+  top-closed : (e : Desk) → answer close (r .end) ≡ gives e → Leads (sessionStart buffer) (calls ++ (close ∷ [])) (session e (built t))
+  top-closed e x = leads-both calls (close ∷ []) (sessionStart buffer) _ _ (r .leads) (leads-one close _ _ e x refl)
 
   whole-buffer : length buffer ≡ length (treeBytes t) → (e : Desk) → answer close (r .end) ≡ gives e → e .buffer ≡ treeBytes t
   whole-buffer size e x =
-      let z = close-top (r .end) e (opened document [] t) (r .holds) x in
+      let z = close-top (r .end) e (openOf document [] t) (r .holds) x in
       let k = bytes-behind close (r .end) e (r .holds .words) x .long in
       sym (take-all (used (e .state)) (e .buffer) (omega (arith, z .many, r .kept))) ∙ z .bytes
 
@@ -204,14 +204,14 @@ module _ (t : Elements) (buffer : List ℕ) (calls : List Call) (r : Reaches (be
       }
 
 tree-given : (t : Elements) → Writable t → (buffer : List ℕ) → roomOf (desk fresh buffer) ≡ length (treeBytes t)
-    → Reaches (begin buffer) (openTop ∷ callsOf t) (opened document [] t) []
+    → Reaches (sessionStart buffer) (openTop ∷ callsOf t) (openOf document [] t) []
 tree-given t w buffer size =
     let l = length-document (listBytes t) in
     let r = top-opened buffer (omega arith) in
     let (i, u) = reached r in
-    let top = shown-top (opened document [] none) in
-    reaches-both (openTop ∷ []) (callsOf t) (begin buffer) _ _ _ _ r
-    (grows t (r .end) (opened document [] none) [] (r .holds) (w .good .ordered) (w .unscoped) (w .numbered) (w .shallow) (omega (arith, none-length)))
+    let top = shown-top (openOf document [] none) in
+    reaches-both (openTop ∷ []) (callsOf t) (sessionStart buffer) _ _ _ _ r
+    (grows t (r .end) (openOf document [] none) [] (r .holds) (w .good .ordered) (w .unscoped) (w .numbered) (w .shallow) (omega (arith, none-length)))
 
 -- every writable tree is built, in a buffer of just its size
 pub writer-builds : WriterBuilds
@@ -220,6 +220,6 @@ writer-builds t w buffer size =
     let l = length-document (listBytes t) in
     let r = tree-given t w buffer s in
     let (i, u) = reached r in
-    let top = shown-top (opened document [] t) in
-    let (e, x) = close-taken (r .end) (opened document [] t) [] (r .holds) (omega arith) (omega arith) in
+    let top = shown-top (openOf document [] t) in
+    let (e, x) = close-taken (r .end) (openOf document [] t) [] (r .holds) (omega arith) (omega arith) in
     tree-built t buffer (openTop ∷ callsOf t) r size (calls-typed t (w .good .ordered)) e x

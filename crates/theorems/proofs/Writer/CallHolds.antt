@@ -15,13 +15,13 @@ use Rattle.bson.specs.Grammar.{bytes32, Item, row, Embedded, document, array, e
 use Rattle.bson.specs.Grammar.{documentOf, listBytes, treeBytes, behind, count}
 use Rattle.bson.specs.Writer.{State, fresh, used, depth, startAt, start, markAt, mark, Kind, inArray, kindOf, markOf, Desk, desk, roomOf, innermost, popped}
 use Rattle.bson.specs.Writer.{keyIn, grown, pushed, close, openTop, append, openNest, answer}
-use Rattle.theorems.specs.ReadBack.{Open, opened, with, keyFor}
+use Rattle.theorems.specs.ReadBack.{Open, openOf, with, keyFor}
 use Rattle.laws.proofs.AnswerLaws.{gives-injective}
 use Rattle.laws.proofs.GrammarLaws.{length-bytes32, length-document}
 use Rattle.laws.proofs.OutputLaws.{length-put, take-put, take-put-in, put-over}
 use Rattle.laws.proofs.WriterWords.{onceMore, fresh-words, grown-words, grown-used, grown-other, grown-depth, grown-mark, pushed-words, pushed-other}
 use Rattle.laws.proofs.WriterWords.{pushed-used, pushed-depth, pushed-start, pushed-mark, popped-words, popped-used, popped-depth, popped-other}
-use Rattle.laws.proofs.WriterLaws.{room-within, innermost-says, sizes, taken, Appended, appended-says, opened-says, topped-says}
+use Rattle.laws.proofs.WriterLaws.{room-within, innermost-says, desk-sizes, taken, Appended, appended-says, opened-says, topped-says}
 use Rattle.laws.proofs.WriterLaws.{sealed, closed-says, bytes-behind}
 use Rattle.laws.proofs.TreeLaws.{count-behind, leaf-bytes, none-length}
 use Rattle.theorems.proofs.Writer.DeskHolds.{shown, startOf, kindFor, kindIs, Tied, HoldsAll, many, Holds}
@@ -53,7 +53,7 @@ kind-opened array = refl
 
 -- one document more
 tied-pushed : (w : State) (os : List Open) (n : Embedded) (key : List ℕ) → length w ≡ 406 → depth w ≡ length os → depth w ≤ 201
-    → used w - 4 ≡ startOf (opened n key none ∷ os) → Tied w 1 os → Tied (pushed w (markOf n)) 0 (opened n key none ∷ os)
+    → used w - 4 ≡ startOf (openOf n key none ∷ os) → Tied w 1 os → Tied (pushed w (markOf n)) 0 (openOf n key none ∷ os)
 unfolding Tied
 tied-pushed w os n key words deep low s t =
     let v = pushed w (markOf n) in
@@ -103,7 +103,7 @@ module _ (d : Desk) (o : Open) (around : List Open) (h : Holds d (o ∷ around))
       let v = grown kind w n in
       let l = last-is in
       let inner = innermost-says d kind i in
-      let s = sizes d kind inner in
+      let s = desk-sizes d kind inner in
       let same : (j : ℕ) → 0 < j → (j ≡ markAt (depth w - 1) → ⊥) → _ = grown-other w kind n in
       let starts : (j : ℕ) → start v j ≡ start w j = λ j. same (startAt j) (omega arith) (λ e. omega arith) in
       let marks : (j : ℕ) → j < length around → mark v j ≡ mark w j = λ j b. same (markAt j) (omega arith) (λ e. omega arith) in
@@ -158,7 +158,7 @@ append-holds d e o around key v h q =
     element-counted e o around (leaf (keyFor o key) v none) refl (rw (leaf-bytes (keyFor o key) v) b)
 
 pub open-holds : (d e : Desk) (o : Open) (around : List Open) (n : Embedded) (key : List ℕ) → Holds d (o ∷ around)
-    → answer (openNest n key) d ≡ gives e → Holds e (opened n (keyFor o key) none ∷ o ∷ around)
+    → answer (openNest n key) d ≡ gives e → Holds e (openOf n (keyFor o key) none ∷ o ∷ around)
 unfolding answer
 open-holds d e o around n key h q =
     let p = opened-says d n key e q in
@@ -168,9 +168,9 @@ open-holds d e o around n key h q =
     let s = sym (shown-opened n (keyFor o key) o around) in
     let u = pushed-used w (b .words) m in
     let deep = b .deep in
-    let begins : used w - 4 ≡ startOf (opened n (keyFor o key) none ∷ o ∷ around) =
-    omega (arith, many b, ap length s, shown-length (opened n (keyFor o key) none) (o ∷ around), none-length) in
-    subst (λ (x : Desk). Holds x (opened n (keyFor o key) none ∷ o ∷ around)) (sym (p .is)) (record {
+    let begins : used w - 4 ≡ startOf (openOf n (keyFor o key) none ∷ o ∷ around) =
+    omega (arith, many b, ap length s, shown-length (openOf n (keyFor o key) none) (o ∷ around), none-length) in
+    subst (λ (x : Desk). Holds x (openOf n (keyFor o key) none ∷ o ∷ around)) (sym (p .is)) (record {
       words = pushed-words w (b .words) m;
       deep = pushed-depth w (b .words) m ∙ omega arith;
       within = omega (arith, b .within);
@@ -178,7 +178,7 @@ open-holds d e o around n key h q =
       tied = tied-pushed w (o ∷ around) n (keyFor o key) (b .words) deep (omega (arith, p .element .low, h .deep)) begins (b .tied);
     })
 
-pub top-holds : (buffer : List ℕ) (e : Desk) → answer openTop (desk fresh buffer) ≡ gives e → Holds e (opened document [] none ∷ [])
+pub top-holds : (buffer : List ℕ) (e : Desk) → answer openTop (desk fresh buffer) ≡ gives e → Holds e (openOf document [] none ∷ [])
 unfolding answer shown startOf listBytes Tied
 top-holds buffer e q =
     let t = topped-says (desk fresh buffer) e q in
@@ -191,7 +191,7 @@ top-holds buffer e q =
     let (r, s) = room-within (length buffer) in
     let f : 0 + length (bytes32 5) ≤ length buffer = omega (arith, t .fits, length-bytes32 5) in
     let nil = sym (append-nil (bytes32 5)) in
-    subst (λ (x : Desk). Holds x (opened document [] none ∷ [])) (sym (t .is)) (record {
+    subst (λ (x : Desk). Holds x (openOf document [] none ∷ [])) (sym (t .is)) (record {
       words = pushed-words w words m;
       deep = pushed-depth w words m ∙ ap (λ (x : ℕ). x + 1) deep;
       within = omega (arith, length-put buffer 0 (bytes32 5) f);
@@ -209,7 +209,7 @@ module _ (d : Desk) (o : Open) (around : List Open) (h : Holds d (o ∷ around))
   true-length = omega (arith, many h, shown-length o around, start-is d o around h)
 
   zero-fits : used (d .state) + 1 ≤ length (d .buffer)
-  zero-fits = let s = sizes d kind (innermost-says d kind i) in omega (arith, s .within, s .some)
+  zero-fits = let s = desk-sizes d kind (innermost-says d kind i) in omega (arith, s .within, s .some)
 
   ended : take (used (d .state) + 1) (put (d .buffer) (used (d .state)) (0 ∷ []))
       ≡ front o around ++ (bytes32 5 ++ (listBytes (o .inside) ++ (0 ∷ [])))
@@ -268,7 +268,7 @@ pub close-top : (d e : Desk) (o : Open) → Holds d (o ∷ []) → answer close 
 unfolding answer front
 close-top d e o h q =
     let c = closed-says d e q in
-    let s = sizes d (c .kind) (innermost-says d (c .kind) (c .inner)) in
+    let s = desk-sizes d (c .kind) (innermost-says d (c .kind) (c .inner)) in
     let b = close-begun d e o [] h q in
     let l = length-document (listBytes (o .inside)) in
     record { closed = b .deep; many = many b; bytes = b .bytes; small = omega (arith, many h, shown-top o, s .small, s .some) }

@@ -6,7 +6,7 @@ use mathlib.Core.List.{List, [], _∷_, _++_, append-assoc, append-nil}
 use native.Mathlib.Omega.{arith}
 use lib.ListN.{length, length-append}
 use Rattle.bson.specs.Grammar.{bytes32, Embedded, embedded, nestTag, Elements, none, nest, elementBytes, listBytes, treeBytes}
-use Rattle.theorems.specs.ReadBack.{Open, opened, with}
+use Rattle.theorems.specs.ReadBack.{Open, openOf, with}
 use Rattle.laws.proofs.GrammarLaws.{length-bytes32, length-element}
 use Rattle.laws.proofs.TreeLaws.{list-behind, nest-bytes}
 use Rattle.theorems.proofs.Writer.DeskHolds.{shown, startOf}
@@ -24,7 +24,7 @@ start-with o [] t = refl
 start-with o (p ∷ around) t = refl
 
 pub shown-opened : (n : Embedded) (key : List ℕ) (o : Open) (around : List Open)
-    → shown (opened n key none ∷ o ∷ around) ≡ shown (o ∷ around) ++ elementBytes (nestTag (embedded n)) key (bytes32 5)
+    → shown (openOf n key none ∷ o ∷ around) ≡ shown (o ∷ around) ++ elementBytes (nestTag (embedded n)) key (bytes32 5)
 unfolding shown listBytes
 shown-opened n key o around = ap (λ (l : List ℕ). shown (o ∷ around) ++ l) (append-nil (elementBytes (nestTag (embedded n)) key (bytes32 5)))
 

@@ -14,15 +14,15 @@ use Rattle.bson.specs.Decimal.{decimal}
 use Rattle.bson.specs.Grammar.{bytes32, Item, row, Embedded, document, array, embedded, nestTag, isArray, Elements, none, leaf, nest}
 use Rattle.bson.specs.Grammar.{count, listBytes, treeBytes, Shallow, Fitting, InOrder, Numbered}
 use Rattle.bson.specs.Writer.{fresh, used, depth, Kind, Desk, desk, roomOf, keyPasses, Call, openTop, close, append, openNest, answer}
-use Rattle.theorems.specs.ReadBack.{Open, opened, Building, unopened, building, built, with, keyFor, after, Session, next}
-use Rattle.theorems.specs.ReadBack.{turn, run, begin, Typed, ReadsBack, Stands, WriterReadsBack}
+use Rattle.theorems.specs.ReadBack.{Open, openOf, Building, unopened, building, built, with, keyFor, treeAfter, Session, sessionAfter}
+use Rattle.theorems.specs.ReadBack.{turn, run, sessionStart, Typed, ReadsBack, Stands, WriterReadsBack}
 use Rattle.laws.proofs.DecimalLaws.{decimal-valid}
 use Rattle.laws.proofs.GrammarLaws.{length-document}
 use Rattle.laws.proofs.TreeLaws.{ordered-behind, shallow-behind, keys-behind}
 use Rattle.laws.proofs.WriterWords.{fresh-closed}
 use Rattle.laws.proofs.WriterLaws.{possible-says, top-used, innermost-says, Appended, appended-says, opened-says, topped-says, closed-says}
 use Rattle.theorems.proofs.Writer.DeskHolds.{kindFor, Holds}
-use Rattle.theorems.proofs.Grammar.TreeReads.{means-back}
+use Rattle.theorems.proofs.Grammar.TreeReads.{tree-means}
 use Rattle.theorems.proofs.Grammar.TreePasses.{plain-asked, means-passes}
 use Rattle.theorems.proofs.Writer.CallHolds.{kind-is, top-holds, append-holds, open-holds, close-holds, close-top}
 
@@ -86,7 +86,7 @@ append-sounds d e o around key v h s f q =
     sounds-with o around (leaf (keyFor o key) v none) s (k .valid, (a .valued, (f, tt))) (k .numbered, tt) (k .low, tt)
 
 open-sounds : (d e : Desk) (o : Open) (around : List Open) (n : Embedded) (key : List ℕ) → Holds d (o ∷ around) → Sounds (o ∷ around)
-    → answer (openNest n key) d ≡ gives e → Sounds (opened n (keyFor o key) none ∷ o ∷ around)
+    → answer (openNest n key) d ≡ gives e → Sounds (openOf n (keyFor o key) none ∷ o ∷ around)
 unfolding answer Sounds
 open-sounds d e o around n key h s q =
     let p = opened-says d n key e q in
@@ -143,7 +143,7 @@ module _ (buffer : List ℕ) where
   close-reads d e o h s q =
       let c = close-top d e o h q in
       let t = o .inside in
-      let means = means-back t (record { ordered = s .1 .ordered; fits = c .small }) in
+      let means = tree-means t (record { ordered = s .1 .ordered; fits = c .small }) in
       record {
         closed = c .closed;
         bytes = c .bytes;
@@ -152,7 +152,7 @@ module _ (buffer : List ℕ) where
         passes = means-passes false (treeBytes t) t means (s .1 .shallow) (plain-asked false 0 t);
       }
 
-  top-kept : (d e : Desk) → d ≡ desk fresh buffer → answer openTop d ≡ gives e → Kept e (building (opened document [] none) [])
+  top-kept : (d e : Desk) → d ≡ desk fresh buffer → answer openTop d ≡ gives e → Kept e (building (openOf document [] none) [])
   unfolding Sounds
   top-kept d e f q =
       (top-holds buffer e (subst (λ (x : Desk). answer openTop x ≡ gives e) f q), (refl, record { ordered = tt; numbered = tt; shallow = tt }))
@@ -160,7 +160,7 @@ module _ (buffer : List ℕ) where
   begun-closed : (d : Desk) → d ≡ desk fresh buffer → depth (d .state) ≡ 0
   begun-closed d f = ap (λ (x : Desk). depth (x .state)) f ∙ fresh-closed
 
-  call-kept : (c : Call) (d e : Desk) (b : Building) → Typed (c ∷ []) → Kept d b → answer c d ≡ gives e → Kept e (after c b)
+  call-kept : (c : Call) (d e : Desk) (b : Building) → Typed (c ∷ []) → Kept d b → answer c d ≡ gives e → Kept e (treeAfter c b)
   call-kept openTop d e unopened t k q = top-kept d e k q
   call-kept openTop d e (building o around) t k q = absurd (omega (arith, k .0 .deep, ready openTop d e q .0))
   call-kept openTop d e (built x) t k q = absurd (built-used d x (k .bytes) (ready openTop d e q .1))
@@ -178,7 +178,7 @@ module _ (buffer : List ℕ) where
   call-kept (openNest n key) d e (built x) t k q = absurd (omega (arith, k .closed, ready (openNest n key) d e q))
 
   next-kept : (c : Call) (s : Session) (x : Answer Desk) → answer c (s .left) ≡ x → Typed (c ∷ []) → Kept (s .left) (s .tree)
-      → Kept (next c s x .left) (next c s x .tree)
+      → Kept (sessionAfter c s x .left) (sessionAfter c s x .tree)
   next-kept c s (gives e) q t k = call-kept c (s .left) e (s .tree) t k q
   next-kept c s (refuses n p) q t k = k
 
@@ -196,5 +196,5 @@ module _ (buffer : List ℕ) where
 -- "what the writer closes [..] reads back as exactly the elements given"
 pub writer-reads-back : WriterReadsBack
 writer-reads-back buffer calls typed =
-    let s = run calls (begin buffer) in
-    kept-stands buffer (s .left) (s .tree) (run-kept buffer calls (begin buffer) typed refl)
+    let s = run calls (sessionStart buffer) in
+    kept-stands buffer (s .left) (s .tree) (run-kept buffer calls (sessionStart buffer) typed refl)
