@@ -13,8 +13,8 @@ from collections import namedtuple
 ROOT = os.path.join(os.path.dirname(os.path.abspath(__file__)), "..")
 sys.dont_write_bytecode = True
 sys.path.insert(0, os.path.join(ROOT, "tools"))
-import rules
-from documents import INT32, SCOPE, doc, element, le, nested, text
+from rules import rules
+from rules.documents import INT32, SCOPE, doc, element, le, nested, text
 
 Row = namedtuple("Row", "task document key name")
 

@@ -1,20 +1,20 @@
 #!/usr/bin/env python3
-"""Makes the check program's inputs and, by document 01's rules (tools/rules.py), what it must print of each: samples/NAME.bson and
-samples/NAME.txt.
+"""Makes the check program's inputs and, by document 01's rules (tools/rules), what it must print of each: samples/NAME.bson and samples/NAME.txt.
 
-usage: tools/make_samples.py                  writes the files
-       tools/make_samples.py --check          the files are what the rules say
-       tools/make_samples.py --many FOLDER    writes an input of as many elements as there can be and what is printed of it, too long to keep
+usage: tools/make/samples.py                  writes the files
+       tools/make/samples.py --check          the files are what the rules say
+       tools/make/samples.py --many FOLDER    writes an input of as many elements as there can be and what is printed of it, too long to keep
 """
-import os
 import sys
+from pathlib import Path
 
-import rules
-from beacon import beacon
-from documents import BATTERY, NULL, SAMPLED, TRY, doc, element, le, nested, text
-from rules import Refused
+ROOT = Path(__file__).resolve().parents[2]
+sys.path.insert(0, str(ROOT / "tools"))
+from rules import rules
+from rules.beacon import beacon
+from rules.documents import BATTERY, NULL, SAMPLED, TRY, doc, element, le, nested, text
+from rules.rules import Refused
 
-ROOT = os.path.join(os.path.dirname(os.path.abspath(__file__)), "..")
 LIMIT = 65_535
 
 
@@ -76,29 +76,20 @@ def many():
 
 def files(folder, inputs):
     for name, data in inputs.items():
-        yield os.path.join(folder, f"{name}.bson"), data
-        yield os.path.join(folder, f"{name}.txt"), report(data).encode()
-
-
-def write(path, data):
-    with open(path, "wb") as file:
-        file.write(data)
-
-
-def is_on_disk(path, data):
-    return os.path.exists(path) and open(path, "rb").read() == data
+        yield folder / f"{name}.bson", data
+        yield folder / f"{name}.txt", report(data).encode()
 
 
 def main():
     if sys.argv[1:2] == ["--many"]:
-        for path, data in files(sys.argv[2], many()):
-            write(path, data)
+        for path, data in files(Path(sys.argv[2]), many()):
+            path.write_bytes(data)
         return
-    made = dict(files(os.path.join(ROOT, "samples"), samples()))
+    made = dict(files(ROOT / "samples", samples()))
     if "--check" not in sys.argv[1:]:
         for path, data in made.items():
-            write(path, data)
-    differ = [os.path.basename(path) for path, data in made.items() if not is_on_disk(path, data)]
+            path.write_bytes(data)
+    differ = [path.name for path, data in made.items() if not path.exists() or path.read_bytes() != data]
     print(f"{len(samples())} samples" + "".join(f"; {name} differs" for name in differ))
     sys.exit(1 if differ else 0)
 

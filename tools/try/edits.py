@@ -6,13 +6,13 @@ with the function's folder in proofs/, then what `rt` replaces. Each such functi
 them may have one. A file without such a line is one edit, of a definition or a promise, by the name of the file: a proof must have an error of its
 own, and no definition. docs/CLAIMS.md names every edit, and README.md says how many there are.
 
-usage: tools/try_edits.py     behind `rt ci`, which leaves the logs in target/must-fail
+usage: tools/try/edits.py     behind `rt ci`, which leaves the logs in target/must-fail
 """
 import re
 import sys
 from pathlib import Path
 
-ROOT = Path(__file__).resolve().parent.parent
+ROOT = Path(__file__).resolve().parents[2]
 ERROR = re.compile(r"^(?:note: )?\S*?/(proofs|specs)/([^:\s]+?)(?:/[^/:\s]+)?:\d+:\d+: error: (.*)", re.M)
 # errors that refute no fact: of whoever needs what was refused, of a name that is not there, of code that was not looked at
 NO_FACT = ("was not admitted (", "is not in scope", "that can be named from here", "has no field")

@@ -15,8 +15,8 @@ array's elements, which is below 2^31, or none of the kinds.
 """
 from functools import cache
 
-from documents import GETTERS, ID, Dice, gets, le, raw, typed
-from rules import Refused, is_utf8, unless
+from .documents import GETTERS, ID, Dice, gets, le, raw, typed
+from .rules import Refused, is_utf8, unless
 
 # ---- values: a tag, and the bytes by the fields of a call; 15 where they may not be written
 

@@ -2,28 +2,25 @@
 """Makes what the vectors program replays.
 
 crates/vectors/stdin holds questions, sessions of the writer among them, then the list: a document a line with every answer about it, those under a
-limit last (diff/README.md says the form). The answers come from document 01's rules (tools/rules.py, tools/writing.py) and, for the list, are held
-against those of the Rust.
+limit last (diff/README.md says the form). The answers come from document 01's rules (tools/rules) and, for the list, are held against the Rust's.
 
-usage: tools/make_cases.py --check           the files are what the rules say; needs no Rust
-       tools/make_cases.py ORACLE            asks the oracle program too, and writes the files where it agrees with the rules
-       tools/make_cases.py --check ORACLE    the same, and writes nothing
+usage: tools/make/cases.py --check           the files are what the rules say; needs no Rust
+       tools/make/cases.py ORACLE            asks the oracle program too, and writes the files where it agrees with the rules
+       tools/make/cases.py --check ORACLE    the same, and writes nothing
 """
-import os
 import re
 import subprocess
 import sys
 from functools import cache
+from pathlib import Path
 
-import documents as making
-import rules
-import writing
-from documents import NULL, SCOPE, bytes_to_try, doc, element, keyed, limited, nested, scope_below, settled
-from questions import all_questions
-from rules import Refused
-
-ROOT = os.path.join(os.path.dirname(os.path.abspath(__file__)), "..")
-
+ROOT = Path(__file__).resolve().parents[2]
+sys.path.insert(0, str(ROOT / "tools"))
+from rules import documents as making
+from rules import rules, writing
+from rules.documents import NULL, SCOPE, bytes_to_try, doc, element, keyed, limited, nested, scope_below, settled
+from rules.questions import all_questions
+from rules.rules import Refused
 
 # ---- a line of the list, by the rules
 
@@ -307,10 +304,9 @@ def files(lines):
 
 
 def on_disk(name, marked):
-    path = os.path.join(ROOT, name)
-    if not os.path.exists(path):
+    if not (ROOT / name).exists():
         return None
-    data = open(path, "rb").read()
+    data = (ROOT / name).read_bytes()
     # only the oracle knows where the stars stand
     return data if marked else "".join(f"{without_marks(t)}\n" for t in data.decode().splitlines()).encode()
 
@@ -331,7 +327,7 @@ def main():
     made = files(confirm(lines, oracle) if oracle else lines)
     if not checking:
         for name, data in made.items():
-            open(os.path.join(ROOT, name), "wb").write(data)
+            (ROOT / name).write_bytes(data)
     marked = {name: bool(oracle) or not name.endswith("stdin") for name in made}
     differ = [name for name, data in made.items() if on_disk(name, marked[name]) != data]
     print(f"{len(all_questions())} questions, {len(lines)} documents" + "".join(f"; {name} differs" for name in differ))

@@ -6,7 +6,7 @@ first name of a cell with a path, must be declared in that file; of names in bra
 is called so. In a table the column says more: under "Function" stand `crate::function` and further functions of that crate, under "Determined by"
 theorems of the row's crate, one for each function of the row, and under "Refused edits" edits of the crate in front (`bson: ..`), else of the row's.
 
-usage: tools/try_claims.py
+usage: tools/try/claims.py
 """
 import re
 import sys
@@ -14,7 +14,7 @@ from collections import Counter, namedtuple
 from functools import cache
 from pathlib import Path
 
-ROOT = Path(__file__).resolve().parent.parent
+ROOT = Path(__file__).resolve().parents[2]
 # names that are not the repository's: of the language, its tools and its library, of C, and of the Rust; and a line that a program prints
 OUTSIDE = {"&[u8]", "ensures", "requires", "rt ci", "leb", "getD", "memset", "snprintf", "read", "write", "TooLongCStr", "max_cstr_parse_len", "unread"}
 KIT = re.compile(r"rattle-kit-\S+ logic [0-9a-f]+")

@@ -1,7 +1,7 @@
-"""A decoded frame as the ground station gets it, battery first, with some forty keys; tools/make_samples.py writes it to samples/beacon.bson."""
+"""A decoded frame as the ground station gets it, battery first, with some forty keys; tools/make/samples.py writes it to samples/beacon.bson."""
 import struct
 
-from documents import ARRAY, DOCUMENT, INT32, NULL, doc, element, le, text, with_scope
+from .documents import ARRAY, DOCUMENT, INT32, NULL, doc, element, le, text, with_scope
 
 HEARD = 1794715680000  # when the frame was heard, in milliseconds
 

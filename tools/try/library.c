@@ -1,4 +1,4 @@
-/* The other end of try_library.py, linked with the library: makes the calls that come on standard input, as C makes them, and writes what each
+/* The other end of library.py, linked with the library: makes the calls that come on standard input, as C makes them, and writes what each
  * returned and what it left in the memory that it was lent. EACH names the functions, in the order of their numbers. */
 #define _GNU_SOURCE
 #include <stdint.h>
@@ -39,7 +39,7 @@ static void (*const functions[])(void) = {EACH(LISTED)};
 
 static void need(int held, const char *what) {
     if (!held) {
-        fprintf(stderr, "try_library: not so: %s\n", what);
+        fprintf(stderr, "library.c: not so: %s\n", what);
         exit(2);
     }
 }

@@ -1,6 +1,6 @@
 """Joining: document 01's rule for it, written from the text of "Writer and joining"."""
-from documents import resized
-from rules import Refused, check
+from .documents import resized
+from .rules import Refused, check
 
 
 def join(first, second, buffer):

@@ -1,6 +1,6 @@
 #!/usr/bin/env python3
 """Holds the C library against document 01's rules: every boundary function is called as C calls it, and every field that it returns and every
-byte that it was lent for writing must be what tools/rules.py, tools/writing.py and tools/joining.py say.
+byte that it was lent for writing must be what these say (tools/rules).
 
 Asked whole: the documents of the list, and those that are listed under a limit under each of theirs; the sessions of the writer, call by call; all
 pairs of document 01's own bytes to join; slices of each size up to 71 bytes, the check of them under limits too; texts of two characters; texts of
@@ -14,8 +14,8 @@ rules: the elements must lie one behind the other, and their sizes add up, as th
 Then the tool is tried itself, on some of the questions: each byte of an answer is changed behind the call, which must be reported, and the rules are
 made wrong, each of which must show as a difference.
 
-usage: tools/try_library.py ARCHIVE                the static library; needs cc
-       tools/try_library.py --smallest ARCHIVE     of a library that may be wrong: prints the smallest question that differs, if one does
+usage: tools/try/library.py ARCHIVE                the static library; needs cc
+       tools/try/library.py --smallest ARCHIVE     of a library that may be wrong: prints the smallest question that differs, if one does
 """
 import struct
 import subprocess
@@ -26,14 +26,14 @@ from pathlib import Path
 from tempfile import TemporaryDirectory
 from unittest.mock import patch
 
-import joining
-import rules
-import writing
-from documents import FIELDS, ID, OLD_BINARY, ROWS, SAMPLES, Dice, around, bytes_to_try, doc, element, gets, keyed, le, limited, resized
-from documents import row_texts, short_beacon, text
-from make_cases import NUMBERS, RETURNED, documents, under_limit
-from rules import Refused
-from writing import hexed, replayed, session
+ROOT = Path(__file__).resolve().parents[2]
+sys.path.insert(0, str(ROOT / "tools"))
+from make.cases import NUMBERS, RETURNED, documents, under_limit
+from rules import joining, rules, writing
+from rules.documents import FIELDS, ID, OLD_BINARY, ROWS, SAMPLES, Dice, around, bytes_to_try, doc, element, gets, keyed, le, limited, resized
+from rules.documents import row_texts, short_beacon, text
+from rules.rules import Refused
+from rules.writing import hexed, replayed, session
 
 # ---- the boundary
 
@@ -104,9 +104,9 @@ class End(bytes):
     START = 2147483647 - 64
 
 
-# ---- calls, made by tools/try_library.c, a program that is linked with the library
+# ---- calls, made by tools/try/library.c, a program that is linked with the library
 
-ON_X86_64 = Path(__file__).with_name("on_x86_64")
+ON_X86_64 = ROOT / "tools/on_x86_64"
 ASKED = struct.Struct("<22Q")  # that program's `asked`
 ENDS = [area << 32 for area in range(1, 6)]  # where its areas end
 WORDS = 9
@@ -157,7 +157,7 @@ def packed_call(name, args, near, spoiled):
 
 class Library:
     def __init__(self, archive, folder):
-        self.program = f"{folder}/try_library"
+        self.program = f"{folder}/library"
         each = "".join(f"F({name})" for name in FUNCTIONS)
         source = Path(__file__).with_suffix(".c")
         subprocess.run([ON_X86_64, "cc", "-O2", "-Wall", "-Wextra", "-Werror", f"-DEACH(F)={each}", source, archive, "-o", self.program], check=True)

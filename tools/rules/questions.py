@@ -6,10 +6,10 @@ Each is a line for the vectors program and the answer that document 01's rules g
 """
 from itertools import product
 
-import rules
-from documents import BATTERY, NULL, SAMPLED, TRY, around, bytes_to_try, doc, element, keyed, le, row_texts, scope_below, text
-from rules import FIXED, FRAMED, PARTS, Refused, admit, boolean, cstring, is_utf8, signed, unsigned, value_size
-from writing import replayed, sessions
+from . import rules
+from .documents import BATTERY, NULL, SAMPLED, TRY, around, bytes_to_try, doc, element, keyed, le, row_texts, scope_below, text
+from .rules import FIXED, FRAMED, PARTS, Refused, admit, boolean, cstring, is_utf8, signed, unsigned, value_size
+from .writing import replayed, sessions
 
 questions = {}
 

@@ -2,15 +2,17 @@
 """Tries the replay itself: in copies of the list's lines one field of one part is made wrong, and the vectors program must report just that part.
 In copies of a session of the writer one field is made another, and the program must print the answer that the rules then give, which is another too.
 
-usage: tools/try_replay.py VECTORS     the built program
+usage: tools/try/replay.py VECTORS     the built program
 """
 import subprocess
 import sys
 from pathlib import Path
 
-from make_cases import documents, head, line, listed
-from questions import said_session
-from writing import every_type, needed, session
+ROOT = Path(__file__).resolve().parents[2]
+sys.path.insert(0, str(ROOT / "tools"))
+from make.cases import documents, head, line, listed
+from rules.questions import said_session
+from rules.writing import every_type, needed, session
 
 EVERY = 40  # one document of the list in so many
 EVERY_LIMITED = 8  # of those under a limit
@@ -40,7 +42,7 @@ def wrong_lines(text):
 
 
 def replay(lines):
-    program = [Path(__file__).with_name("on_x86_64"), sys.argv[1]]
+    program = [ROOT / "tools/on_x86_64", sys.argv[1]]
     return subprocess.run(program, input="".join(f"{t}\n" for t in lines), capture_output=True, text=True, check=True).stdout.splitlines()
 
 
