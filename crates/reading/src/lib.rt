@@ -124,30 +124,18 @@ pub fn parts_of(value: Value) -> TwoParts
 {
     let none = Part { offset: 0, size: 0 };
     match value {
-        Value::Double(_) => TwoParts(none, none),
         Value::String(text) => TwoParts(text, none),
         Value::Document(document) => TwoParts(document, none),
         Value::Array(array) => TwoParts(array, none),
         Value::Binary { subtype: _, data } => TwoParts(data, none),
-        Value::Undefined => TwoParts(none, none),
         Value::ObjectId(id) => TwoParts(id, none),
-        Value::Boolean(_) => TwoParts(none, none),
-        Value::DateTime(_) => TwoParts(none, none),
-        Value::Null => TwoParts(none, none),
         Value::RegularExpression { pattern, options } => TwoParts(pattern, options),
         Value::DbPointer { namespace, id } => TwoParts(namespace, id),
         Value::JavaScriptCode(code) => TwoParts(code, none),
         Value::Symbol(symbol) => TwoParts(symbol, none),
         Value::JavaScriptCodeWithScope { code, scope } => TwoParts(code, scope),
-        Value::Int32(_) => TwoParts(none, none),
-        Value::Timestamp {
-            increment: _,
-            seconds: _,
-        } => TwoParts(none, none),
-        Value::Int64(_) => TwoParts(none, none),
         Value::Decimal128(decimal) => TwoParts(decimal, none),
-        Value::MinKey => TwoParts(none, none),
-        Value::MaxKey => TwoParts(none, none),
+        _ => TwoParts(none, none),
     }
 }
 
