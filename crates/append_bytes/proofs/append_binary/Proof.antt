@@ -10,26 +10,14 @@ use Rattle.append_bytes.proofs.Runs.{with-inner-length, with-one-length
 use Rattle.append_bytes.proofs.append_binary.Statement.{statement}
 use Rattle.append_bytes.proofs.append_binary.Tie as tie
 
-bytes32-requires : tie.Need-bytes32-requires
-bytes32-requires c κs = tt
-
 add-bytes32 : tie.Need-add-bytes32
 add-bytes32 c = omega arith
-
-bytes32-requires-2 : tie.Need-bytes32-requires-2
-bytes32-requires-2 c κs = tt
 
 slice-aggregate-append : tie.Need-slice-aggregate-append
 slice-aggregate-append c = four _ (c .before .before .before .bytes322 .ensures)
 
 slice-aggregate-append-2 : tie.Need-slice-aggregate-append-2
 slice-aggregate-append-2 c = refl
-
-slice-aggregate-append-3 : tie.Need-slice-aggregate-append-3
-slice-aggregate-append-3 c = search needs
-
-append-requires : tie.Need-append-requires
-append-requires c κs = tt
 
 same-length : tie.Need-same-length
 same-length c = c .before .before .append .kept .0
@@ -50,9 +38,6 @@ slice-aggregate-append-5 c = refl
 slice-aggregate-append-6 : tie.Need-slice-aggregate-append-6
 slice-aggregate-append-6 c = refl
 
-append-requires-2 : tie.Need-append-requires-2
-append-requires-2 c κs = tt
-
 same-length-2 : tie.Need-same-length-2
 same-length-2 c = c .before .before .append2 .kept .0
 
@@ -66,18 +51,18 @@ pub append-binary-spec : {M : Type 1} → statement M
 append-binary-spec =
     tie.close
     (tie.spec
-    bytes32-requires
+    (λ c κs. tt)
     add-bytes32
-    bytes32-requires-2
+    (λ c κs. tt)
     slice-aggregate-append
     slice-aggregate-append-2
-    slice-aggregate-append-3
-    append-requires
+    (λ c. search needs)
+    (λ c κs. tt)
     same-length
     returns
     slice-aggregate-append-4
     slice-aggregate-append-5
     slice-aggregate-append-6
-    append-requires-2
+    (λ c κs. tt)
     same-length-2
     returns-2)

@@ -8,27 +8,6 @@ use borrow.Author.Needs.{needs}
 use Rattle.append_bytes.proofs.append_dbpointer.Statement.{statement}
 use Rattle.append_bytes.proofs.append_dbpointer.Tie as tie
 
-is-utf8-requires : tie.Need-is-utf8-requires
-is-utf8-requires c κs = search needs
-
-add-bytes32 : tie.Need-add-bytes32
-add-bytes32 c = search needs
-
-bytes32-requires : tie.Need-bytes32-requires
-bytes32-requires c κs = search needs
-
-slice-aggregate-append : tie.Need-slice-aggregate-append
-slice-aggregate-append c = search needs
-
-slice-aggregate-append-2 : tie.Need-slice-aggregate-append-2
-slice-aggregate-append-2 c = search needs
-
-append-requires : tie.Need-append-requires
-append-requires c κs = search needs
-
-same-length : tie.Need-same-length
-same-length c = search needs
-
 returns : tie.Need-returns
 unfolding performed answer row appending
 returns c =
@@ -39,11 +18,11 @@ pub append-dbpointer-spec : {M : Type 1} → statement M
 append-dbpointer-spec =
     tie.close
     (tie.spec
-    is-utf8-requires
-    add-bytes32
-    bytes32-requires
-    slice-aggregate-append
-    slice-aggregate-append-2
-    append-requires
-    same-length
+    (λ c κs. search needs)
+    (λ c. search needs)
+    (λ c κs. search needs)
+    (λ c. search needs)
+    (λ c. search needs)
+    (λ c κs. search needs)
+    (λ c. search needs)
     returns)

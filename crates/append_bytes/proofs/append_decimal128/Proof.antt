@@ -17,9 +17,6 @@ slice-aggregate-append-2 c = refl
 slice-aggregate-append-3 : tie.Need-slice-aggregate-append-3
 slice-aggregate-append-3 c = refl
 
-append-requires : tie.Need-append-requires
-append-requires c κs = tt
-
 same-length : tie.Need-same-length
 same-length c = c .before .before .append .kept .0
 
@@ -29,11 +26,4 @@ returns c = valued _ _ _ _ _ _ (c .before .before .append .ensures) (append-nil 
 
 pub append-decimal128-spec : {M : Type 1} → statement M
 append-decimal128-spec =
-    tie.close
-    (tie.spec
-    slice-aggregate-append
-    slice-aggregate-append-2
-    slice-aggregate-append-3
-    append-requires
-    same-length
-    returns)
+    tie.close (tie.spec slice-aggregate-append slice-aggregate-append-2 slice-aggregate-append-3 (λ c κs. tt) same-length returns)

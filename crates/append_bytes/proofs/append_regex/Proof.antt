@@ -8,20 +8,11 @@ use Rattle.append_bytes.proofs.Runs.{both}
 use Rattle.append_bytes.proofs.append_regex.Statement.{statement}
 use Rattle.append_bytes.proofs.append_regex.Tie as tie
 
-is-valid-cstr-requires : tie.Need-is-valid-cstr-requires
-is-valid-cstr-requires c κs = tt
-
-is-valid-cstr-requires-2 : tie.Need-is-valid-cstr-requires-2
-is-valid-cstr-requires-2 c κs = tt
-
 slice-aggregate-append : tie.Need-slice-aggregate-append
 slice-aggregate-append c = refl
 
 slice-aggregate-append-2 : tie.Need-slice-aggregate-append-2
 slice-aggregate-append-2 c = refl
-
-append-requires : tie.Need-append-requires
-append-requires c κs = tt
 
 same-length : tie.Need-same-length
 same-length c = c .before .before .append .kept .0
@@ -35,12 +26,4 @@ returns c =
 
 pub append-regex-spec : {M : Type 1} → statement M
 append-regex-spec =
-    tie.close
-    (tie.spec
-    is-valid-cstr-requires
-    is-valid-cstr-requires-2
-    slice-aggregate-append
-    slice-aggregate-append-2
-    append-requires
-    same-length
-    returns)
+    tie.close (tie.spec (λ c κs. tt) (λ c κs. tt) slice-aggregate-append slice-aggregate-append-2 (λ c κs. tt) same-length returns)

@@ -5,9 +5,6 @@ use Rattle.appending.specs.Element.{appending}
 use Rattle.append_bytes.proofs.append_symbol.Statement.{statement}
 use Rattle.append_bytes.proofs.append_symbol.Tie as tie
 
-append-text-requires : tie.Need-append-text-requires
-append-text-requires c κs = tt
-
 same-length : tie.Need-same-length
 same-length c = c .before .before .append-text .kept .0
 
@@ -16,4 +13,4 @@ unfolding performed answer row appending
 returns c = c .before .before .append-text .ensures
 
 pub append-symbol-spec : {M : Type 1} → statement M
-append-symbol-spec = tie.close (tie.spec append-text-requires same-length returns)
+append-symbol-spec = tie.close (tie.spec (λ c κs. tt) same-length returns)

@@ -9,12 +9,6 @@ use Rattle.encode.proofs.Basic.{passed}
 use Rattle.append_scalars.proofs.append_datetime.Statement.{statement}
 use Rattle.append_scalars.proofs.append_datetime.Tie as tie
 
-bits64-requires : tie.Need-bits64-requires
-bits64-requires c κs = tt
-
-append-eight-requires : tie.Need-append-eight-requires
-append-eight-requires c κs = tt
-
 same-length : tie.Need-same-length
 same-length c = c .before .before .append-eight .kept .0
 
@@ -27,5 +21,4 @@ returns c =
     valued _ _ _ _ _ _ (c .before .before .append-eight .ensures) (ap bytes64 e)
 
 pub append-datetime-spec : {M : Type 1} → statement M
-append-datetime-spec =
-    tie.close (tie.spec bits64-requires append-eight-requires same-length returns)
+append-datetime-spec = tie.close (tie.spec (λ c κs. tt) (λ c κs. tt) same-length returns)

@@ -5,9 +5,6 @@ use Rattle.appending.specs.Element.{appending}
 use Rattle.append_scalars.proofs.append_double.Statement.{statement}
 use Rattle.append_scalars.proofs.append_double.Tie as tie
 
-append-eight-requires : tie.Need-append-eight-requires
-append-eight-requires c κs = tt
-
 same-length : tie.Need-same-length
 same-length c = c .before .before .append-eight .kept .0
 
@@ -16,4 +13,4 @@ unfolding performed answer row appending
 returns c = c .before .before .append-eight .ensures
 
 pub append-double-spec : {M : Type 1} → statement M
-append-double-spec = tie.close (tie.spec append-eight-requires same-length returns)
+append-double-spec = tie.close (tie.spec (λ c κs. tt) same-length returns)

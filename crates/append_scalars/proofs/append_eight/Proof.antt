@@ -3,9 +3,6 @@ use Rattle.bson.specs.Grammar.{bytes64}
 use Rattle.append_scalars.proofs.append_eight.Statement.{statement}
 use Rattle.append_scalars.proofs.append_eight.Tie as tie
 
-append-words-requires : tie.Need-append-words-requires
-append-words-requires c κs = tt
-
 same-length : tie.Need-same-length
 same-length c = c .before .before .append-words .kept .0
 
@@ -14,4 +11,4 @@ unfolding bytes64
 returns c = c .before .before .append-words .ensures
 
 pub append-eight-spec : {M : Type 1} → statement M
-append-eight-spec = tie.close (tie.spec append-words-requires same-length returns)
+append-eight-spec = tie.close (tie.spec (λ c κs. tt) same-length returns)

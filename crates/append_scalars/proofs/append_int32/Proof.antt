@@ -14,28 +14,10 @@ use borrow.Author.Needs.{needs}
 use Rattle.append_scalars.proofs.append_int32.Statement.{statement}
 use Rattle.append_scalars.proofs.append_int32.Tie as tie
 
-head-requires : tie.Need-head-requires
-head-requires c κs = search needs
-
-used-requires : tie.Need-used-requires
-used-requires c κs = search needs
-
 sub-at : tie.Need-sub-at
 sub-at c =
     let h = c .before .before .before .before .before in
     head-ready _ _ _ _ _ _ _ _ _ _ (h .head .ensures) (c .before .before .if1 .taken) _ (c .used .ensures .0)
-
-bits32-requires : tie.Need-bits32-requires
-bits32-requires c κs = search needs
-
-cast-put-bytes32 : tie.Need-cast-put-bytes32
-cast-put-bytes32 c = search needs
-
-put-bytes32-requires : tie.Need-put-bytes32-requires
-put-bytes32-requires c κs = search needs
-
-same-length : tie.Need-same-length
-same-length c = search needs
 
 returns : tie.Need-returns
 unfolding performed answer row appending
@@ -48,9 +30,6 @@ returns c =
     value-put _ _ _ _ _ _ _ _ (sym (length-bytes32 _)) _ _ _ (h .head .ensures) (u .before .before .if1 .taken) (h .head .kept .0) _
     (ap (λ (n : ℕ). n - 4) (u .used .ensures .0)) (_ ∷ []) (word _ ∙ ap bytes32 e) _ _ (p .put-bytes32 .ensures)
 
-same-length-2 : tie.Need-same-length-2
-same-length-2 c = search needs
-
 returns-2 : tie.Need-returns-2
 unfolding performed answer row appending
 returns-2 c = head-refused _ _ _ _ _ _ _ _ (sym (length-bytes32 _)) _ _ _ (c .before .before .before .head .ensures) (c .if1 .left)
@@ -59,13 +38,13 @@ pub append-int32-spec : {M : Type 1} → statement M
 append-int32-spec =
     tie.close
     (tie.spec
-    head-requires
-    used-requires
+    (λ c κs. search needs)
+    (λ c κs. search needs)
     sub-at
-    bits32-requires
-    cast-put-bytes32
-    put-bytes32-requires
-    same-length
+    (λ c κs. search needs)
+    (λ c. search needs)
+    (λ c κs. search needs)
+    (λ c. search needs)
     returns
-    same-length-2
+    (λ c. search needs)
     returns-2)

@@ -4,14 +4,8 @@ use borrow.Author.Needs.{needs}
 use Rattle.append_scalars.proofs.append_nothing.Statement.{statement}
 use Rattle.append_scalars.proofs.append_nothing.Tie as tie
 
-head-requires : tie.Need-head-requires
-head-requires c κs = search needs
-
-same-length : tie.Need-same-length
-same-length c = search needs
-
 returns : tie.Need-returns
 returns c = nothing-put _ _ _ _ _ _ _ _ _ (c .before .before .head .ensures) (c .before .before .head .kept .0)
 
 pub append-nothing-spec : {M : Type 1} → statement M
-append-nothing-spec = tie.close (tie.spec head-requires same-length returns)
+append-nothing-spec = tie.close (tie.spec (λ c κs. search needs) (λ c. search needs) returns)

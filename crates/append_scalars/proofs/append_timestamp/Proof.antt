@@ -5,9 +5,6 @@ use Rattle.appending.specs.Element.{appending}
 use Rattle.append_scalars.proofs.append_timestamp.Statement.{statement}
 use Rattle.append_scalars.proofs.append_timestamp.Tie as tie
 
-append-words-requires : tie.Need-append-words-requires
-append-words-requires c κs = tt
-
 same-length : tie.Need-same-length
 same-length c = c .before .before .append-words .kept .0
 
@@ -16,4 +13,4 @@ unfolding performed answer row appending
 returns c = c .before .before .append-words .ensures
 
 pub append-timestamp-spec : {M : Type 1} → statement M
-append-timestamp-spec = tie.close (tie.spec append-words-requires same-length returns)
+append-timestamp-spec = tie.close (tie.spec (λ c κs. tt) same-length returns)

@@ -7,27 +7,12 @@ use borrow.Author.Needs.{needs}
 use Rattle.appending.proofs.append.Statement.{statement}
 use Rattle.appending.proofs.append.Tie as tie
 
-total-requires : tie.Need-total-requires
-total-requires c κs = search needs
-
-head-requires : tie.Need-head-requires
-head-requires c κs = search needs
-
-used-requires : tie.Need-used-requires
-used-requires c κs = search needs
-
 sub-at : tie.Need-sub-at
 sub-at c =
     let h = c .before .before .before .before .before in
     let a = h .before .before .before .before .before .before .before .before .before .before .args in
     let f = runs-fit _ _ _ _ _ _ (a .p .now) (a .q .now) (a .r .now) (a .s .now) _ (h .before .before .before .total .ensures) _ _ _ (h .head .ensures) (c .before .before .if1 .taken) in
     omega (arith, c .used .ensures .0)
-
-put-runs-requires : tie.Need-put-runs-requires
-put-runs-requires c κs = search needs
-
-same-length : tie.Need-same-length
-same-length c = search needs
 
 returns : tie.Need-returns
 returns c =
@@ -36,9 +21,6 @@ returns c =
     let t = h .before .before .before in
     runs-put _ _ _ _ _ _ _ _ _ _ _ (t .total .ensures) _ _ _ (h .head .ensures) (u .before .before .if1 .taken) (h .head .kept .0) _
     (ap (λ (n : ℕ). n - t .total .result) (u .used .ensures .0)) _ _ (c .before .before .put-runs .ensures)
-
-same-length-2 : tie.Need-same-length-2
-same-length-2 c = search needs
 
 returns-2 : tie.Need-returns-2
 returns-2 c =
@@ -50,12 +32,12 @@ pub append-spec : {M : Type 1} → statement M
 append-spec =
     tie.close
     (tie.spec
-    total-requires
-    head-requires
-    used-requires
+    (λ c κs. search needs)
+    (λ c κs. search needs)
+    (λ c κs. search needs)
     sub-at
-    put-runs-requires
-    same-length
+    (λ c κs. search needs)
+    (λ c. search needs)
     returns
-    same-length-2
+    (λ c. search needs)
     returns-2)

@@ -7,9 +7,6 @@ use Rattle.writer_state.specs.Said.{saidKind}
 use Rattle.appending.proofs.grow.Statement.{statement}
 use Rattle.appending.proofs.grow.Tie as tie
 
-depth-requires : tie.Need-depth-requires
-depth-requires c κs = tt
-
 sub-last : tie.Need-sub-last
 sub-last c = omega arith
 
@@ -62,7 +59,7 @@ pub grow-spec : {M : Type 1} → statement M
 grow-spec =
     tie.close
     (tie.spec
-    depth-requires
+    (λ c κs. tt)
     sub-last
     cast-words
     element-copy-out-words

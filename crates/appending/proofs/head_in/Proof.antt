@@ -8,12 +8,6 @@ use Rattle.appending.proofs.head_in.Tie as tie
 refusal-requires : tie.Need-refusal-requires
 refusal-requires c κs = c .before .before .before .pre .1
 
-used-requires : tie.Need-used-requires
-used-requires c κs = tt
-
-put-head-requires : tie.Need-put-head-requires
-put-head-requires c κs = tt
-
 sub-grow : tie.Need-sub-grow
 sub-grow c =
     let u = c .before .before .before .before .before in
@@ -61,15 +55,4 @@ returns-2 c =
     refused _ _ _ _ (s .pre .0) (s .pre .1) _ _ _ _ _ _ (f .refusal .ensures) (c .if1 .left)
 
 pub head-in-spec : {M : Type 1} → statement M
-head-in-spec =
-    tie.close
-    (tie.spec
-    refusal-requires
-    used-requires
-    put-head-requires
-    sub-grow
-    add-grow
-    grow-requires
-    same-length
-    returns
-    returns-2)
+head-in-spec = tie.close (tie.spec refusal-requires (λ c κs. tt) (λ c κs. tt) sub-grow add-grow grow-requires same-length returns returns-2)

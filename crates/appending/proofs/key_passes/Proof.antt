@@ -7,9 +7,6 @@ use Rattle.appending.proofs.key_passes.Tie as tie
 enum-told : tie.Need-enum-told
 enum-told c = c .match .keys1
 
-is-valid-cstr-requires : tie.Need-is-valid-cstr-requires
-is-valid-cstr-requires c κs = tt
-
 enum-told-2 : tie.Need-enum-told-2
 enum-told-2 c = c .match .keys2
 
@@ -22,5 +19,4 @@ unfolding keyPasses saidKind
 returns-2 c = rw (c .enum-told2 .given .1)
 
 pub key-passes-spec : {M : Type 1} → statement M
-key-passes-spec =
-    tie.close (tie.spec enum-told is-valid-cstr-requires enum-told-2 returns returns-2)
+key-passes-spec = tie.close (tie.spec enum-told (λ c κs. tt) enum-told-2 returns returns-2)

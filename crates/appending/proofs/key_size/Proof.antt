@@ -16,9 +16,6 @@ enum-known-kind c = c .match .keys2
 cast-width-of : tie.Need-cast-width-of
 cast-width-of c = omega arith
 
-width-of-requires : tie.Need-width-of-requires
-width-of-requires c κs = tt
-
 returns : tie.Need-returns
 unfolding keyIn saidKind
 returns c = (rw (c .enum-told .given .1) refl, omega arith)
@@ -28,6 +25,4 @@ unfolding keyIn saidKind
 returns-2 c = (rw (c .before .before .kind .given .1) (c .width-of .ensures .0 ∙ sym (length-decimal _)), omega arith)
 
 pub key-size-spec : {M : Type 1} → statement M
-key-size-spec =
-    tie.close
-    (tie.spec enum-told enum-known-kind cast-width-of width-of-requires returns returns-2)
+key-size-spec = tie.close (tie.spec enum-told enum-known-kind cast-width-of (λ c κs. tt) returns returns-2)

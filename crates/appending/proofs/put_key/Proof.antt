@@ -8,17 +8,11 @@ use Rattle.appending.proofs.put_key.Tie as tie
 enum-told : tie.Need-enum-told
 enum-told c = c .match .keys1
 
-put-text-requires : tie.Need-put-text-requires
-put-text-requires c κs = tt
-
 enum-known-kind : tie.Need-enum-known-kind
 enum-known-kind c = c .match .keys2
 
 cast-put-decimal : tie.Need-cast-put-decimal
 cast-put-decimal c = omega arith
-
-put-decimal-requires : tie.Need-put-decimal-requires
-put-decimal-requires c κs = tt
 
 same-length : tie.Need-same-length
 same-length c = c .before .before .put-text .kept .0
@@ -36,14 +30,4 @@ returns-2 c = rw (c .before .before .before .before .before .kind .given .1) (c 
 
 pub put-key-spec : {M : Type 1} → statement M
 put-key-spec =
-    tie.close
-    (tie.spec
-    enum-told
-    put-text-requires
-    enum-known-kind
-    cast-put-decimal
-    put-decimal-requires
-    same-length
-    returns
-    same-length-2
-    returns-2)
+    tie.close (tie.spec enum-told (λ c κs. tt) enum-known-kind cast-put-decimal (λ c κs. tt) same-length returns same-length-2 returns-2)

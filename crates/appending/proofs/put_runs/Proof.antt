@@ -4,21 +4,6 @@ use borrow.Author.Needs.{needs}
 use Rattle.appending.proofs.put_runs.Statement.{statement}
 use Rattle.appending.proofs.put_runs.Tie as tie
 
-put-text-requires : tie.Need-put-text-requires
-put-text-requires c κs = search needs
-
-put-text-requires-2 : tie.Need-put-text-requires-2
-put-text-requires-2 c κs = search needs
-
-put-text-requires-3 : tie.Need-put-text-requires-3
-put-text-requires-3 c κs = search needs
-
-put-text-requires-4 : tie.Need-put-text-requires-4
-put-text-requires-4 c κs = search needs
-
-same-length : tie.Need-same-length
-same-length c = search needs
-
 returns : tie.Need-returns
 returns c =
     let s = c .before .before in
@@ -30,10 +15,4 @@ returns c =
 pub put-runs-spec : {M : Type 1} → statement M
 put-runs-spec =
     tie.close
-    (tie.spec
-    put-text-requires
-    put-text-requires-2
-    put-text-requires-3
-    put-text-requires-4
-    same-length
-    returns)
+    (tie.spec (λ c κs. search needs) (λ c κs. search needs) (λ c κs. search needs) (λ c κs. search needs) (λ c. search needs) returns)

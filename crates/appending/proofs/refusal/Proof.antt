@@ -13,15 +13,6 @@ next-depth-requires c κs = left-open _ _ _ (c .before .pre) .0
 returns : tie.Need-returns
 returns c = too-deep _ _ _ (c .before .before .before .pre) _ _ _ _ _ (c .before .next-depth .ensures) (c .if1 .taken)
 
-key-passes-requires : tie.Need-key-passes-requires
-key-passes-requires c κs = tt
-
-used-requires : tie.Need-used-requires
-used-requires c κs = tt
-
-depth-requires : tie.Need-depth-requires
-depth-requires c κs = tt
-
 add-left : tie.Need-add-left
 add-left c =
     let s = c .before .before .before .before .before .before .before in
@@ -32,17 +23,11 @@ sub-left c =
     let s = c .before .before .before .before .before .before .before in
     omega (arith, left-open _ _ _ (s .pre) .1)
 
-key-size-requires : tie.Need-key-size-requires
-key-size-requires c κs = tt
-
 add-fits : tie.Need-add-fits
 add-fits c = omega arith
 
 add-fits-2 : tie.Need-add-fits-2
 add-fits-2 c = omega arith
-
-fits-requires : tie.Need-fits-requires
-fits-requires c κs = tt
 
 returns-2 : tie.Need-returns-2
 returns-2 c =
@@ -78,15 +63,15 @@ refusal-spec =
     (tie.spec
     next-depth-requires
     returns
-    key-passes-requires
-    used-requires
-    depth-requires
+    (λ c κs. tt)
+    (λ c κs. tt)
+    (λ c κs. tt)
     add-left
     sub-left
-    key-size-requires
+    (λ c κs. tt)
     add-fits
     add-fits-2
-    fits-requires
+    (λ c κs. tt)
     returns-2
     returns-3
     returns-4)

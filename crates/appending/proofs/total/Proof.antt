@@ -17,15 +17,6 @@ returns-3 c = over _ (omega arith)
 returns-4 : tie.Need-returns-4
 returns-4 c = over _ (omega arith)
 
-add-n : tie.Need-add-n
-add-n c = search needs
-
-add-n-2 : tie.Need-add-n-2
-add-n-2 c = search needs
-
-add-n-3 : tie.Need-add-n-3
-add-n-3 c = search needs
-
 returns-5 : tie.Need-returns-5
 returns-5 c = over _ (omega arith)
 
@@ -35,4 +26,4 @@ returns-6 c = within _ (omega arith)
 pub total-spec : {M : Type 1} → statement M
 total-spec =
     tie.close
-    (tie.spec returns returns-2 returns-3 returns-4 add-n add-n-2 add-n-3 returns-5 returns-6)
+    (tie.spec returns returns-2 returns-3 returns-4 (λ c. search needs) (λ c. search needs) (λ c. search needs) returns-5 returns-6)

@@ -23,11 +23,8 @@ some-digits (b ∷ k) position r h e = e
 returns : tie.Need-returns
 returns c position = none-bad (c .before .before .args .key .now) position (omega arith)
 
-all-digits-requires : tie.Need-all-digits-requires
-all-digits-requires c κs = search needs
-
 returns-2 : tie.Need-returns-2
 returns-2 c position = some-digits (c .before .before .before .args .key .now) position _ (omega arith) (c .all-digits .ensures)
 
 pub is-good-spec : {M : Type 1} → statement M
-is-good-spec = tie.close (tie.spec returns all-digits-requires returns-2)
+is-good-spec = tie.close (tie.spec returns (λ c κs. search needs) returns-2)

@@ -4,11 +4,8 @@ use Rattle.encode.proofs.Basic.{boolean-byte}
 use Rattle.c_answers.proofs.no_element.Statement.{statement}
 use Rattle.c_answers.proofs.no_element.Tie as tie
 
-cast-t6 : tie.Need-cast-t6
-cast-t6 c = search needs
-
 returns : tie.Need-returns
 returns c = rw (boolean-byte (c .before .args .next .ended))
 
 pub no-element-spec : {M : Type 1} → statement M
-no-element-spec = tie.close (tie.spec cast-t6 returns)
+no-element-spec = tie.close (tie.spec (λ c. search needs) returns)

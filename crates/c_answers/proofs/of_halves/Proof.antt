@@ -4,14 +4,8 @@ use borrow.Author.Needs.{needs}
 use Rattle.c_answers.proofs.of_halves.Statement.{statement}
 use Rattle.c_answers.proofs.of_halves.Tie as tie
 
-mul-result : tie.Need-mul-result
-mul-result c = search needs
-
-add-result : tie.Need-add-result
-add-result c = search needs
-
 returns : tie.Need-returns
 returns c = refl
 
 pub of-halves-spec : {M : Type 1} → statement M
-of-halves-spec = tie.close (tie.spec mul-result add-result returns)
+of-halves-spec = tie.close (tie.spec (λ c. search needs) (λ c. search needs) returns)

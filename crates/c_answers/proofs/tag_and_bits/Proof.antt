@@ -7,87 +7,6 @@ use Rattle.c_answers.specs.Numbers.{tagOf, bitsOf, signedBits}
 use Rattle.c_answers.proofs.tag_and_bits.Statement.{statement}
 use Rattle.c_answers.proofs.tag_and_bits.Tie as tie
 
-enum-known-value : tie.Need-enum-known-value
-enum-known-value c = search needs
-
-enum-told : tie.Need-enum-told
-enum-told c = search needs
-
-enum-told-2 : tie.Need-enum-told-2
-enum-told-2 c = search needs
-
-enum-told-3 : tie.Need-enum-told-3
-enum-told-3 c = search needs
-
-enum-known-value-2 : tie.Need-enum-known-value-2
-enum-known-value-2 c = search needs
-
-cast-t11 : tie.Need-cast-t11
-cast-t11 c = search needs
-
-enum-told-4 : tie.Need-enum-told-4
-enum-told-4 c = search needs
-
-enum-told-5 : tie.Need-enum-told-5
-enum-told-5 c = search needs
-
-enum-known-value-3 : tie.Need-enum-known-value-3
-enum-known-value-3 c = search needs
-
-of-bool-requires : tie.Need-of-bool-requires
-of-bool-requires c κs = tt
-
-enum-known-value-4 : tie.Need-enum-known-value-4
-enum-known-value-4 c = search needs
-
-bits64-requires : tie.Need-bits64-requires
-bits64-requires c κs = tt
-
-enum-told-6 : tie.Need-enum-told-6
-enum-told-6 c = search needs
-
-enum-told-7 : tie.Need-enum-told-7
-enum-told-7 c = search needs
-
-enum-told-8 : tie.Need-enum-told-8
-enum-told-8 c = search needs
-
-enum-told-9 : tie.Need-enum-told-9
-enum-told-9 c = search needs
-
-enum-told-10 : tie.Need-enum-told-10
-enum-told-10 c = search needs
-
-enum-told-11 : tie.Need-enum-told-11
-enum-told-11 c = search needs
-
-enum-known-value-5 : tie.Need-enum-known-value-5
-enum-known-value-5 c = search needs
-
-of-int32-requires : tie.Need-of-int32-requires
-of-int32-requires c κs = tt
-
-enum-known-value-6 : tie.Need-enum-known-value-6
-enum-known-value-6 c = search needs
-
-of-halves-requires : tie.Need-of-halves-requires
-of-halves-requires c κs = tt
-
-enum-known-value-7 : tie.Need-enum-known-value-7
-enum-known-value-7 c = search needs
-
-bits64-requires-2 : tie.Need-bits64-requires-2
-bits64-requires-2 c κs = tt
-
-enum-told-12 : tie.Need-enum-told-12
-enum-told-12 c = search needs
-
-enum-told-13 : tie.Need-enum-told-13
-enum-told-13 c = search needs
-
-enum-told-14 : tie.Need-enum-told-14
-enum-told-14 c = search needs
-
 returns : tie.Need-returns
 unfolding tagOf bitsOf
 returns c = rw (c .before .value .given .1) (refl, refl)
@@ -182,33 +101,33 @@ pub tag-and-bits-spec : {M : Type 1} → statement M
 tag-and-bits-spec =
     tie.close
     (tie.spec
-    enum-known-value
-    enum-told
-    enum-told-2
-    enum-told-3
-    enum-known-value-2
-    cast-t11
-    enum-told-4
-    enum-told-5
-    enum-known-value-3
-    of-bool-requires
-    enum-known-value-4
-    bits64-requires
-    enum-told-6
-    enum-told-7
-    enum-told-8
-    enum-told-9
-    enum-told-10
-    enum-told-11
-    enum-known-value-5
-    of-int32-requires
-    enum-known-value-6
-    of-halves-requires
-    enum-known-value-7
-    bits64-requires-2
-    enum-told-12
-    enum-told-13
-    enum-told-14
+    (λ c. search needs)
+    (λ c. search needs)
+    (λ c. search needs)
+    (λ c. search needs)
+    (λ c. search needs)
+    (λ c. search needs)
+    (λ c. search needs)
+    (λ c. search needs)
+    (λ c. search needs)
+    (λ c κs. tt)
+    (λ c. search needs)
+    (λ c κs. tt)
+    (λ c. search needs)
+    (λ c. search needs)
+    (λ c. search needs)
+    (λ c. search needs)
+    (λ c. search needs)
+    (λ c. search needs)
+    (λ c. search needs)
+    (λ c κs. tt)
+    (λ c. search needs)
+    (λ c κs. tt)
+    (λ c. search needs)
+    (λ c κs. tt)
+    (λ c. search needs)
+    (λ c. search needs)
+    (λ c. search needs)
     returns
     returns-2
     returns-3

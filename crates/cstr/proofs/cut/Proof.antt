@@ -7,9 +7,6 @@ use Rattle.cstr.proofs.Limits.{seen-part, seen-all}
 use Rattle.cstr.proofs.cut.Statement.{statement}
 use Rattle.cstr.proofs.cut.Tie as tie
 
-add-end : tie.Need-add-end
-add-end c = search needs
-
 slice-aggregate-result : tie.Need-slice-aggregate-result
 slice-aggregate-result c = sym (length-take-le _ _ (omega arith))
 
@@ -20,4 +17,4 @@ returns-2 : tie.Need-returns-2
 returns-2 c = let a = c .before .args in seen-all (a .v .now) (a .limit) (omega arith)
 
 pub cut-spec : {M : Type 1} → statement M
-cut-spec = tie.close (tie.spec add-end slice-aggregate-result returns returns-2)
+cut-spec = tie.close (tie.spec (λ c. search needs) slice-aggregate-result returns returns-2)

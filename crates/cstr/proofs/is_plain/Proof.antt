@@ -17,33 +17,15 @@ Inv-loop k i₀ i = (i ≤ length k) × (i + plain (drop i k) ≡ plain k)
 abbrev μ-loop : tie.MeasureT-loop
 μ-loop k i₀ i = length k - i
 
-loop-holds : tie.Need-loop-holds Inv-loop μ-loop
-loop-holds c = search needs
-
-sub-loop : tie.Need-sub-loop Inv-loop μ-loop
-sub-loop c = search needs
-
-stops-in-four-requires : tie.Need-stops-in-four-requires Inv-loop μ-loop
-stops-in-four-requires c κs = search needs
-
 returns : tie.Need-returns Inv-loop μ-loop
 returns c =
     let l = c .before .before .before .loop in
     plain-short _ _ (l .inv .1) (ltb-true _ _ (sym (c .before .stops-in-four .ensures) ∙ c .if1 .taken)) (omega arith)
 
-add-i : tie.Need-add-i Inv-loop μ-loop
-add-i c = search needs
-
-loop-less : tie.Need-loop-less Inv-loop μ-loop
-loop-less c = search needs
-
 loop-again : tie.Need-loop-again Inv-loop μ-loop
 loop-again c =
     let l = c .before .before .before .loop in
     (omega arith, plain-on _ _ (l .inv .1) (ltb-false _ _ (sym (c .before .stops-in-four .ensures) ∙ c .if1 .left)))
-
-plain-rest-requires : tie.Need-plain-rest-requires Inv-loop μ-loop
-plain-rest-requires c κs = search needs
 
 returns-2 : tie.Need-returns-2 Inv-loop μ-loop
 returns-2 c =
@@ -55,12 +37,12 @@ is-plain-spec =
     (tie.spec
     Inv-loop
     μ-loop
-    loop-holds
-    sub-loop
-    stops-in-four-requires
+    (λ c. search needs)
+    (λ c. search needs)
+    (λ c κs. search needs)
     returns
-    add-i
-    loop-less
+    (λ c. search needs)
+    (λ c. search needs)
     loop-again
-    plain-rest-requires
+    (λ c κs. search needs)
     returns-2)

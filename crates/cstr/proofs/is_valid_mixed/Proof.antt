@@ -5,12 +5,6 @@ use borrow.Author.Needs.{needs}
 use Rattle.cstr.proofs.is_valid_mixed.Statement.{statement}
 use Rattle.cstr.proofs.is_valid_mixed.Tie as tie
 
-first-zero-requires : tie.Need-first-zero-requires
-first-zero-requires c κs = search needs
-
-is-utf8-requires : tie.Need-is-utf8-requires
-is-utf8-requires c κs = search needs
-
 returns : tie.Need-returns
 unfolding validCstr
 returns c = rw (← c .before .before .first-zero .ensures, eq-eqb _ _ (c .before .if1 .taken)) (c .is-utf8 .ensures)
@@ -20,4 +14,4 @@ unfolding validCstr
 returns-2 c = rw (← c .before .first-zero .ensures, ne-eqb _ _ (c .if1 .left))
 
 pub is-valid-mixed-spec : {M : Type 1} → statement M
-is-valid-mixed-spec = tie.close (tie.spec first-zero-requires is-utf8-requires returns returns-2)
+is-valid-mixed-spec = tie.close (tie.spec (λ c κs. search needs) (λ c κs. search needs) returns returns-2)

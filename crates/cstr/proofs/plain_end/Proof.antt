@@ -14,37 +14,16 @@ Inv-loop v i₀ i = (i ≤ length v) × (i + plain (drop i v) ≡ plain v)
 abbrev μ-loop : tie.MeasureT-loop
 μ-loop v i₀ i = length v - i
 
-loop-holds : tie.Need-loop-holds Inv-loop μ-loop
-loop-holds c = search needs
-
-sub-loop : tie.Need-sub-loop Inv-loop μ-loop
-sub-loop c = search needs
-
 plain-of-four-requires : tie.Need-plain-of-four-requires Inv-loop μ-loop
 plain-of-four-requires c κs = search needs
 
-add-result : tie.Need-add-result Inv-loop μ-loop
-add-result c = search needs
-
 returns : tie.Need-returns Inv-loop μ-loop
 returns c = omega (arith, c .before .plain-of-four .ensures .stopped (omega arith))
-
-add-i : tie.Need-add-i Inv-loop μ-loop
-add-i c = search needs
-
-loop-less : tie.Need-loop-less Inv-loop μ-loop
-loop-less c = search needs
 
 loop-again : tie.Need-loop-again Inv-loop μ-loop
 loop-again c =
     let w = c .before .plain-of-four .ensures .passed (omega arith) in
     (omega arith, omega arith)
-
-plain-rest-requires : tie.Need-plain-rest-requires Inv-loop μ-loop
-plain-rest-requires c κs = search needs
-
-returns-2 : tie.Need-returns-2 Inv-loop μ-loop
-returns-2 c = search needs
 
 pub plain-end-spec : {M : Type 1} → statement M
 plain-end-spec =
@@ -52,13 +31,13 @@ plain-end-spec =
     (tie.spec
     Inv-loop
     μ-loop
-    loop-holds
-    sub-loop
+    (λ c. search needs)
+    (λ c. search needs)
     plain-of-four-requires
-    add-result
+    (λ c. search needs)
     returns
-    add-i
-    loop-less
+    (λ c. search needs)
+    (λ c. search needs)
     loop-again
-    plain-rest-requires
-    returns-2)
+    (λ c κs. search needs)
+    (λ c. search needs))

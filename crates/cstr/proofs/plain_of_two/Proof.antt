@@ -8,26 +8,11 @@ use native.Mathlib.Omega.{arith}
 use Rattle.cstr.proofs.plain_of_two.Statement.{statement}
 use Rattle.cstr.proofs.plain_of_two.Tie as tie
 
-shared-slice-read-stops : tie.Need-shared-slice-read-stops
-shared-slice-read-stops c = search needs
-
-stops-requires : tie.Need-stops-requires
-stops-requires c κs = search needs
-
 returns : tie.Need-returns
 returns c =
     let a = c .before .before .before .before .args in
     let e = before-here stopsAt (a .v .now) (a .offset) (omega arith) (sym (c .before .stops .ensures) ∙ c .if1 .taken) in
     record { most = omega arith; stopped = λ h. omega arith; passed = λ h. omega arith }
-
-add-stops : tie.Need-add-stops
-add-stops c = search needs
-
-shared-slice-read-stops-2 : tie.Need-shared-slice-read-stops-2
-shared-slice-read-stops-2 c = search needs
-
-stops-requires-2 : tie.Need-stops-requires-2
-stops-requires-2 c κs = search needs
 
 returns-2 : tie.Need-returns-2
 returns-2 c =
@@ -51,11 +36,11 @@ pub plain-of-two-spec : {M : Type 1} → statement M
 plain-of-two-spec =
     tie.close
     (tie.spec
-    shared-slice-read-stops
-    stops-requires
+    (λ c. search needs)
+    (λ c κs. search needs)
     returns
-    add-stops
-    shared-slice-read-stops-2
-    stops-requires-2
+    (λ c. search needs)
+    (λ c. search needs)
+    (λ c κs. search needs)
     returns-2
     returns-3)

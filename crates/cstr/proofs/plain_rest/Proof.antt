@@ -15,27 +15,12 @@ Inv-loop v from i₀ i = (i ≤ length v) × (i + plain (drop i v) ≡ from + pl
 abbrev μ-loop : tie.MeasureT-loop
 μ-loop v from i₀ i = length v - i
 
-loop-holds : tie.Need-loop-holds Inv-loop μ-loop
-loop-holds c = search needs
-
-shared-slice-read-stops : tie.Need-shared-slice-read-stops Inv-loop μ-loop
-shared-slice-read-stops c = search needs
-
-stops-requires : tie.Need-stops-requires Inv-loop μ-loop
-stops-requires c κs = search needs
-
 returns : tie.Need-returns Inv-loop μ-loop
 returns c =
     let b = c .before .before .before .before in
     let v = b .before .before .args .v .now in
     let e = before-here stopsAt v (b .loop .i) (omega arith) (sym (c .before .stops .ensures) ∙ c .if1 .taken) in
     omega arith
-
-add-i : tie.Need-add-i Inv-loop μ-loop
-add-i c = search needs
-
-loop-less : tie.Need-loop-less Inv-loop μ-loop
-loop-less c = search needs
 
 loop-again : tie.Need-loop-again Inv-loop μ-loop
 loop-again c =
@@ -53,11 +38,11 @@ plain-rest-spec =
     (tie.spec
     Inv-loop
     μ-loop
-    loop-holds
-    shared-slice-read-stops
-    stops-requires
+    (λ c. search needs)
+    (λ c. search needs)
+    (λ c κs. search needs)
     returns
-    add-i
-    loop-less
+    (λ c. search needs)
+    (λ c. search needs)
     loop-again
     returns-2)

@@ -6,33 +6,15 @@ use borrow.Author.Needs.{needs}
 use Rattle.cstr.proofs.read_cstring_with_max_len.Statement.{statement}
 use Rattle.cstr.proofs.read_cstring_with_max_len.Tie as tie
 
-cut-requires : tie.Need-cut-requires
-cut-requires c κs = search needs
-
-plain-end-requires : tie.Need-plain-end-requires
-plain-end-requires c κs = search needs
-
-shared-slice-read-if2 : tie.Need-shared-slice-read-if2
-shared-slice-read-if2 c = search needs
-
 returns : tie.Need-returns
 unfolding cstringUnder
 returns c =
     let b = c .before .before .before in
     rw (← b .before .cut .ensures) (plain-found _ _ (b .plain-end .ensures) (omega arith) (c .if2 .taken) _)
 
-number-of-requires : tie.Need-number-of-requires
-number-of-requires c κs = search needs
-
-read-mixed-requires : tie.Need-read-mixed-requires
-read-mixed-requires c κs = search needs
-
 returns-2 : tie.Need-returns-2
 unfolding cstringUnder
 returns-2 c = rw (← c .before .before .before .before .before .before .cut .ensures, ← c .before .number-of .ensures) (c .read-mixed .ensures)
-
-number-of-requires-2 : tie.Need-number-of-requires-2
-number-of-requires-2 c κs = search needs
 
 returns-3 : tie.Need-returns-3
 unfolding cstringUnder
@@ -44,12 +26,12 @@ pub read-cstring-with-max-len-spec : {M : Type 1} → statement M
 read-cstring-with-max-len-spec =
     tie.close
     (tie.spec
-    cut-requires
-    plain-end-requires
-    shared-slice-read-if2
+    (λ c κs. search needs)
+    (λ c κs. search needs)
+    (λ c. search needs)
     returns
-    number-of-requires
-    read-mixed-requires
+    (λ c κs. search needs)
+    (λ c κs. search needs)
     returns-2
-    number-of-requires-2
+    (λ c κs. search needs)
     returns-3)

@@ -8,14 +8,8 @@ use native.Mathlib.Omega.{arith}
 use Rattle.cstr.proofs.read_mixed.Statement.{statement}
 use Rattle.cstr.proofs.read_mixed.Tie as tie
 
-first-zero-requires : tie.Need-first-zero-requires
-first-zero-requires c κs = search needs
-
 slice-aggregate-is-utf8 : tie.Need-slice-aggregate-is-utf8
 slice-aggregate-is-utf8 c = sym (length-take-le _ _ (omega arith))
-
-is-utf8-requires : tie.Need-is-utf8-requires
-is-utf8-requires c κs = search needs
 
 returns : tie.Need-returns
 unfolding zeroText
@@ -34,12 +28,4 @@ unfolding zeroText
 returns-3 c = rw (← c .before .first-zero .ensures, le-ltb _ _ (c .if1 .left))
 
 pub read-mixed-spec : {M : Type 1} → statement M
-read-mixed-spec =
-    tie.close
-    (tie.spec
-    first-zero-requires
-    slice-aggregate-is-utf8
-    is-utf8-requires
-    returns
-    returns-2
-    returns-3)
+read-mixed-spec = tie.close (tie.spec (λ c κs. search needs) slice-aggregate-is-utf8 (λ c κs. search needs) returns returns-2 returns-3)

@@ -13,9 +13,6 @@ Inv-loop n power rest₀ digit₀ rest digit = n ≡ digit * power + rest
 abbrev μ-loop : tie.MeasureT-loop
 μ-loop n power rest₀ digit₀ rest digit = rest
 
-loop-holds : tie.Need-loop-holds Inv-loop μ-loop
-loop-holds c = search needs
-
 add-digit : tie.Need-add-digit Inv-loop μ-loop
 add-digit c = omega (arith, digit-below _ _ _ _ (c .before .loop .inv) (omega arith))
 
@@ -29,4 +26,4 @@ returns : tie.Need-returns Inv-loop μ-loop
 returns c = let i = c .before .loop .inv in (digit-below _ _ _ _ i (omega arith), i, omega arith)
 
 pub lead-spec : {M : Type 1} → statement M
-lead-spec = tie.close (tie.spec Inv-loop μ-loop loop-holds add-digit loop-less loop-again returns)
+lead-spec = tie.close (tie.spec Inv-loop μ-loop (λ c. search needs) add-digit loop-less loop-again returns)

@@ -19,41 +19,17 @@ Inv-loop powers out₀ at n k rest₀ place₀ zeros₀ out rest place zeros =
 abbrev μ-loop : tie.MeasureT-loop
 μ-loop powers out₀ at n k rest₀ place₀ zeros₀ out rest place zeros = zeros
 
-sub-zeros : tie.Need-sub-zeros Inv-loop μ-loop
-sub-zeros c = search needs
-
 loop-holds : tie.Need-loop-holds Inv-loop μ-loop
 loop-holds c =
     let a = c .before .before .args in
     let e : suc (a .k - 1) ≡ a .k = omega arith in
     (omega arith, omega arith, refl, rw e (c .before .before .pre .4), rw e)
 
-mul-lead : tie.Need-mul-lead Inv-loop μ-loop
-mul-lead c = search needs
-
-shared-slice-read-lead : tie.Need-shared-slice-read-lead Inv-loop μ-loop
-shared-slice-read-lead c = search needs
-
 lead-requires : tie.Need-lead-requires Inv-loop μ-loop
 lead-requires c κs =
     let l = c .before .before .loop in
     let power = c .before .before .before .before .before .pre .0 .power-at in
     rw (power (l .zeros) (l .inv .1), mul-comm 10, ← pow-suc 10 (l .zeros)) (l .inv .3)
-
-add-out : tie.Need-add-out Inv-loop μ-loop
-add-out c = search needs
-
-slice-write-out : tie.Need-slice-write-out Inv-loop μ-loop
-slice-write-out c = search needs
-
-add-place : tie.Need-add-place Inv-loop μ-loop
-add-place c = search needs
-
-sub-zeros-2 : tie.Need-sub-zeros-2 Inv-loop μ-loop
-sub-zeros-2 c = search needs
-
-loop-less : tie.Need-loop-less Inv-loop μ-loop
-loop-less c = search needs
 
 loop-again : tie.Need-loop-again Inv-loop μ-loop
 loop-again c =
@@ -74,9 +50,6 @@ cast-out c = omega (arith, one-digit (suc (c .before .loop .zeros)) _ (omega ari
 add-out-2 : tie.Need-add-out-2 Inv-loop μ-loop
 add-out-2 c = omega (arith, one-digit (suc (c .before .loop .zeros)) _ (omega arith) (c .before .loop .inv .3))
 
-slice-write-out-2 : tie.Need-slice-write-out-2 Inv-loop μ-loop
-slice-write-out-2 c = search needs
-
 same-length : tie.Need-same-length Inv-loop μ-loop
 same-length c = simp length-set (c .before .loop .inv .2)
 
@@ -91,19 +64,19 @@ put-by-spec =
     (tie.spec
     Inv-loop
     μ-loop
-    sub-zeros
+    (λ c. search needs)
     loop-holds
-    mul-lead
-    shared-slice-read-lead
+    (λ c. search needs)
+    (λ c. search needs)
     lead-requires
-    add-out
-    slice-write-out
-    add-place
-    sub-zeros-2
-    loop-less
+    (λ c. search needs)
+    (λ c. search needs)
+    (λ c. search needs)
+    (λ c. search needs)
+    (λ c. search needs)
     loop-again
     cast-out
     add-out-2
-    slice-write-out-2
+    (λ c. search needs)
     same-length
     returns)

@@ -18,12 +18,6 @@ all-digits : (exit buffer : List ℕ) (at n k : ℕ) → k ≡ width n → exit 
 unfolding decimal
 all-digits exit buffer at n k w e = e ∙ ap (λ (k : ℕ). put buffer at (digits k n)) w
 
-width-of-requires : tie.Need-width-of-requires
-width-of-requires c κs = search needs
-
-fits-requires : tie.Need-fits-requires
-fits-requires c κs = search needs
-
 put-digits-requires : tie.Need-put-digits-requires
 put-digits-requires c κs =
     let w = c .before .before .before .width-of .ensures in (
@@ -39,9 +33,6 @@ add-result c =
     let a = b .before .before .before .before .args in
     omega (arith, leb-true (a .at + b .before .before .width-of .result) (length (a .out .now)) (sym (b .before .fits2 .ensures) ∙ b .if1 .taken))
 
-same-length : tie.Need-same-length
-same-length c = search needs
-
 returns : tie.Need-returns
 returns c =
     let b = c .before .before .before .before in
@@ -55,12 +46,4 @@ returns-2 c =
 
 pub put-decimal-spec : {M : Type 1} → statement M
 put-decimal-spec =
-    tie.close
-    (tie.spec
-    width-of-requires
-    fits-requires
-    put-digits-requires
-    add-result
-    same-length
-    returns
-    returns-2)
+    tie.close (tie.spec (λ c κs. search needs) (λ c κs. search needs) put-digits-requires add-result (λ c. search needs) returns returns-2)

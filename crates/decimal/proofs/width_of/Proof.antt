@@ -13,29 +13,14 @@ Inv-loop n powers k₀ k = (1 ≤ k) × (k ≤ 20) × (k ≤ width n)
 abbrev μ-loop : tie.MeasureT-loop
 μ-loop n powers k₀ k = 20 - k
 
-powers-of-ten-requires : tie.Need-powers-of-ten-requires Inv-loop μ-loop
-powers-of-ten-requires c κs = search needs
-
 loop-holds : tie.Need-loop-holds Inv-loop μ-loop
 loop-holds c = (omega arith, omega arith, width-positive (c .before .args .n))
-
-mul-if1 : tie.Need-mul-if1 Inv-loop μ-loop
-mul-if1 c = search needs
-
-array-read-if1 : tie.Need-array-read-if1 Inv-loop μ-loop
-array-read-if1 c = search needs
 
 returns : tie.Need-returns Inv-loop μ-loop
 returns c =
     let l = c .before .before .loop in
     let power = c .before .before .before .powers-of-ten .ensures .power-at in
     (width-is (l .k) _ (l .inv .0) (l .inv .2) (rw (← power (l .k) (omega arith)) (c .if1 .taken)), l .inv .1)
-
-add-k : tie.Need-add-k Inv-loop μ-loop
-add-k c = search needs
-
-loop-less : tie.Need-loop-less Inv-loop μ-loop
-loop-less c = search needs
 
 loop-again : tie.Need-loop-again Inv-loop μ-loop
 loop-again c =
@@ -55,12 +40,12 @@ width-of-spec =
     (tie.spec
     Inv-loop
     μ-loop
-    powers-of-ten-requires
+    (λ c κs. search needs)
     loop-holds
-    mul-if1
-    array-read-if1
+    (λ c. search needs)
+    (λ c. search needs)
     returns
-    add-k
-    loop-less
+    (λ c. search needs)
+    (λ c. search needs)
     loop-again
     returns-2)

@@ -2,9 +2,6 @@
 use Rattle.doc_writer.proofs.close.Statement.{statement}
 use Rattle.doc_writer.proofs.close.Tie as tie
 
-close-requires : tie.Need-close-requires
-close-requires c κs = tt
-
 same-length : tie.Need-same-length
 same-length c = c .before .before .close .kept .0
 
@@ -12,4 +9,4 @@ returns : tie.Need-returns
 returns c = c .before .before .close .ensures
 
 pub close-spec : {M : Type 1} → statement M
-close-spec = tie.close (tie.spec close-requires same-length returns)
+close-spec = tie.close (tie.spec (λ c κs. tt) same-length returns)

@@ -2,9 +2,6 @@
 use Rattle.doc_writer.proofs.open.Statement.{statement}
 use Rattle.doc_writer.proofs.open.Tie as tie
 
-open-top-requires : tie.Need-open-top-requires
-open-top-requires c κs = tt
-
 same-length : tie.Need-same-length
 same-length c = c .before .before .open-top .kept .0
 
@@ -12,4 +9,4 @@ returns : tie.Need-returns
 returns c = c .before .before .open-top .ensures
 
 pub open-spec : {M : Type 1} → statement M
-open-spec = tie.close (tie.spec open-top-requires same-length returns)
+open-spec = tie.close (tie.spec (λ c κs. tt) same-length returns)

@@ -2,9 +2,6 @@
 use Rattle.doc_writer.proofs.open_array.Statement.{statement}
 use Rattle.doc_writer.proofs.open_array.Tie as tie
 
-open-array-requires : tie.Need-open-array-requires
-open-array-requires c κs = tt
-
 same-length : tie.Need-same-length
 same-length c = c .before .before .open-array .kept .0
 
@@ -12,4 +9,4 @@ returns : tie.Need-returns
 returns c = c .before .before .open-array .ensures
 
 pub open-array-spec : {M : Type 1} → statement M
-open-array-spec = tie.close (tie.spec open-array-requires same-length returns)
+open-array-spec = tie.close (tie.spec (λ c κs. tt) same-length returns)

@@ -2,9 +2,6 @@
 use Rattle.doc_writer.proofs.open_document.Statement.{statement}
 use Rattle.doc_writer.proofs.open_document.Tie as tie
 
-open-document-requires : tie.Need-open-document-requires
-open-document-requires c κs = tt
-
 same-length : tie.Need-same-length
 same-length c = c .before .before .open-document .kept .0
 
@@ -12,4 +9,4 @@ returns : tie.Need-returns
 returns c = c .before .before .open-document .ensures
 
 pub open-document-spec : {M : Type 1} → statement M
-open-document-spec = tie.close (tie.spec open-document-requires same-length returns)
+open-document-spec = tie.close (tie.spec (λ c κs. tt) same-length returns)

@@ -56,21 +56,9 @@ Inv-loop s key limit whole place₀ place = Searching (limitOf limit) s key whol
 abbrev μ-loop : tie.MeasureT-loop
 μ-loop s key limit whole place₀ place = length s - place
 
-sub-whole : tie.Need-sub-whole Inv-loop μ-loop
-sub-whole c = search needs
-
-part-whole-start : tie.Need-part-whole-start Inv-loop μ-loop
-part-whole-start c = search needs
-
-part-whole-end : tie.Need-part-whole-end Inv-loop μ-loop
-part-whole-end c = search needs
-
 loop-holds : tie.Need-loop-holds Inv-loop μ-loop
 unfolding getUnder
 loop-holds c = record { all = rest-part _ 0; left = refl }
-
-sizes-at-requires : tie.Need-sizes-at-requires Inv-loop μ-loop
-sizes-at-requires c κs = tt
 
 enum-told : tie.Need-enum-told Inv-loop μ-loop
 enum-told c = c .match .keys1
@@ -104,19 +92,10 @@ add-behind c =
     let b = c .before in
     omega (arith, inside _ _ _ _ _ (b .before .before .before .loop .inv) _ _ _ (answered (saidSizes _) (b .before .before .sizes-at .ensures) (b .tag .given .1)))
 
-sub-equal : tie.Need-sub-equal Inv-loop μ-loop
-sub-equal c = search needs
-
-part-equal-start : tie.Need-part-equal-start Inv-loop μ-loop
-part-equal-start c = search needs
-
 part-equal-end : tie.Need-part-equal-end Inv-loop μ-loop
 part-equal-end c =
     let b = c .before in
     omega (arith, inside _ _ _ _ _ (b .before .before .before .loop .inv) _ _ _ (answered (saidSizes _) (b .before .before .sizes-at .ensures) (b .tag .given .1)))
-
-equal-requires : tie.Need-equal-requires Inv-loop μ-loop
-equal-requires c κs = tt
 
 returns-3 : tie.Need-returns-3 Inv-loop μ-loop
 returns-3 c =
@@ -146,11 +125,11 @@ find-spec =
     (tie.spec
     Inv-loop
     μ-loop
-    sub-whole
-    part-whole-start
-    part-whole-end
+    (λ c. search needs)
+    (λ c. search needs)
+    (λ c. search needs)
     loop-holds
-    sizes-at-requires
+    (λ c κs. tt)
     enum-told
     returns
     enum-known-number
@@ -159,10 +138,10 @@ find-spec =
     add-start
     add-zero
     add-behind
-    sub-equal
-    part-equal-start
+    (λ c. search needs)
+    (λ c. search needs)
     part-equal-end
-    equal-requires
+    (λ c κs. tt)
     returns-3
     add-place
     loop-less

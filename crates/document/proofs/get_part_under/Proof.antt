@@ -8,24 +8,6 @@ use borrow.Author.Needs.{needs}
 use Rattle.document.proofs.get_part_under.Statement.{statement}
 use Rattle.document.proofs.get_part_under.Tie as tie
 
-get-with-under-requires : tie.Need-get-with-under-requires
-get-with-under-requires c κs = search needs
-
-enum-told : tie.Need-enum-told
-enum-told c = search needs
-
-slice-aggregate-result : tie.Need-slice-aggregate-result
-slice-aggregate-result c = search needs
-
-enum-known-value : tie.Need-enum-known-value
-enum-known-value c = search needs
-
-part-of-requires : tie.Need-part-of-requires
-part-of-requires c κs = search needs
-
-bytes-of-requires : tie.Need-bytes-of-requires
-bytes-of-requires c κs = search needs
-
 returns : tie.Need-returns
 unfolding getPartUnder
 returns c = rw (answered said (c .before .before .before .get-with-under .ensures) (c .before .enum-told .given .1))
@@ -40,11 +22,11 @@ pub get-part-under-spec : {M : Type 1} → statement M
 get-part-under-spec =
     tie.close
     (tie.spec
-    get-with-under-requires
-    enum-told
-    slice-aggregate-result
-    enum-known-value
-    part-of-requires
-    bytes-of-requires
+    (λ c κs. search needs)
+    (λ c. search needs)
+    (λ c. search needs)
+    (λ c. search needs)
+    (λ c κs. search needs)
+    (λ c κs. search needs)
     returns
     returns-2)

@@ -6,21 +6,6 @@ use borrow.Author.Needs.{needs}
 use Rattle.document.proofs.get_under.Statement.{statement}
 use Rattle.document.proofs.get_under.Tie as tie
 
-get-element-under-requires : tie.Need-get-element-under-requires
-get-element-under-requires c κs = search needs
-
-enum-told : tie.Need-enum-told
-enum-told c = search needs
-
-slice-aggregate-result : tie.Need-slice-aggregate-result
-slice-aggregate-result c = search needs
-
-enum-known-element : tie.Need-enum-known-element
-enum-known-element c = search needs
-
-bytes-of-requires : tie.Need-bytes-of-requires
-bytes-of-requires c κs = search needs
-
 returns : tie.Need-returns
 unfolding getBytesUnder
 returns c = rw (answered said (c .before .before .before .get-element-under .ensures) (c .before .enum-told .given .1))
@@ -34,11 +19,4 @@ returns-2 c =
 pub get-under-spec : {M : Type 1} → statement M
 get-under-spec =
     tie.close
-    (tie.spec
-    get-element-under-requires
-    enum-told
-    slice-aggregate-result
-    enum-known-element
-    bytes-of-requires
-    returns
-    returns-2)
+    (tie.spec (λ c κs. search needs) (λ c. search needs) (λ c. search needs) (λ c. search needs) (λ c κs. search needs) returns returns-2)

@@ -5,17 +5,11 @@ use Rattle.document.specs.Said.{reads}
 use Rattle.document.proofs.get_with_under.Statement.{statement}
 use Rattle.document.proofs.get_with_under.Tie as tie
 
-find-requires : tie.Need-find-requires
-find-requires c κs = tt
-
 enum-known-number : tie.Need-enum-known-number
 enum-known-number c = c .match .keys1
 
 enum-known-element : tie.Need-enum-known-element
 enum-known-element c = c .match .keys2
-
-read-element-with-requires : tie.Need-read-element-with-requires
-read-element-with-requires c κs = tt
 
 returns : tie.Need-returns
 unfolding getWithUnder
@@ -28,12 +22,4 @@ returns-2 c =
     rw (answered (reads _) (b .before .before .find .ensures) (b .element .given .1)) (c .read-element-with .ensures)
 
 pub get-with-under-spec : {M : Type 1} → statement M
-get-with-under-spec =
-    tie.close
-    (tie.spec
-    find-requires
-    enum-known-number
-    enum-known-element
-    read-element-with-requires
-    returns
-    returns-2)
+get-with-under-spec = tie.close (tie.spec (λ c κs. tt) enum-known-number enum-known-element (λ c κs. tt) returns returns-2)

@@ -6,15 +6,6 @@ use borrow.Author.Needs.{needs}
 use Rattle.document.proofs.is_empty.Statement.{statement}
 use Rattle.document.proofs.is_empty.Tie as tie
 
-from-bytes-requires : tie.Need-from-bytes-requires
-from-bytes-requires c κs = search needs
-
-enum-known-number : tie.Need-enum-known-number
-enum-known-number c = search needs
-
-enum-known-n : tie.Need-enum-known-n
-enum-known-n c = search needs
-
 returns : tie.Need-returns
 unfolding isEmpty
 returns c = rw (answered saidLength (c .before .before .before .from-bytes .ensures) (c .before .number .given .1))
@@ -24,5 +15,4 @@ unfolding isEmpty
 returns-2 c = rw (answered saidLength (c .before .before .before .from-bytes .ensures) (c .before .n .given .1))
 
 pub is-empty-spec : {M : Type 1} → statement M
-is-empty-spec =
-    tie.close (tie.spec from-bytes-requires enum-known-number enum-known-n returns returns-2)
+is-empty-spec = tie.close (tie.spec (λ c κs. search needs) (λ c. search needs) (λ c. search needs) returns returns-2)

@@ -6,15 +6,6 @@ use borrow.Author.Needs.{needs}
 use Rattle.document.proofs.read_element.Statement.{statement}
 use Rattle.document.proofs.read_element.Tie as tie
 
-value-of-requires : tie.Need-value-of-requires
-value-of-requires c κs = search needs
-
-enum-known-number : tie.Need-enum-known-number
-enum-known-number c = search needs
-
-enum-known-value : tie.Need-enum-known-value
-enum-known-value c = search needs
-
 returns : tie.Need-returns
 unfolding found
 returns c = rw (answered reading.said (c .before .before .before .value-of .ensures) (c .before .number .given .1))
@@ -24,5 +15,4 @@ unfolding found
 returns-2 c = rw (answered reading.said (c .before .before .before .value-of .ensures) (c .before .value .given .1))
 
 pub read-element-spec : {M : Type 1} → statement M
-read-element-spec =
-    tie.close (tie.spec value-of-requires enum-known-number enum-known-value returns returns-2)
+read-element-spec = tie.close (tie.spec (λ c κs. search needs) (λ c. search needs) (λ c. search needs) returns returns-2)

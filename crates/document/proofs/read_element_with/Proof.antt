@@ -5,9 +5,6 @@ use Rattle.document.specs.Said.{said}
 use Rattle.document.proofs.read_element_with.Statement.{statement}
 use Rattle.document.proofs.read_element_with.Tie as tie
 
-read-element-requires : tie.Need-read-element-requires
-read-element-requires c κs = tt
-
 enum-known-number : tie.Need-enum-known-number
 enum-known-number c = c .match .keys1
 
@@ -28,12 +25,4 @@ returns-3 c =
     rw (answered said (b .before .before .read-element .ensures) (b .element .given .1), ne-eqb _ _ (c .if1 .left))
 
 pub read-element-with-spec : {M : Type 1} → statement M
-read-element-with-spec =
-    tie.close
-    (tie.spec
-    read-element-requires
-    enum-known-number
-    enum-known-element
-    returns
-    returns-2
-    returns-3)
+read-element-with-spec = tie.close (tie.spec (λ c κs. tt) enum-known-number enum-known-element returns returns-2 returns-3)

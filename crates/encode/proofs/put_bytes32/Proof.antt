@@ -7,15 +7,6 @@ use borrow.Author.Needs.{needs}
 use Rattle.encode.proofs.put_bytes32.Statement.{statement}
 use Rattle.encode.proofs.put_bytes32.Tie as tie
 
-bytes32-requires : tie.Need-bytes32-requires
-bytes32-requires c κs = tt
-
-slice-aggregate-put-text : tie.Need-slice-aggregate-put-text
-slice-aggregate-put-text c = search needs
-
-put-text-requires : tie.Need-put-text-requires
-put-text-requires c κs = tt
-
 same-length : tie.Need-same-length
 same-length c = c .before .before .put-text .kept .0
 
@@ -26,6 +17,4 @@ returns c =
     p .put-text .ensures ∙ ap (λ (t : List ℕ). putText (output (a .out .now) (a .at)) t) (p .before .before .before .bytes32 .ensures)
 
 pub put-bytes32-spec : {M : Type 1} → statement M
-put-bytes32-spec =
-    tie.close
-    (tie.spec bytes32-requires slice-aggregate-put-text put-text-requires same-length returns)
+put-bytes32-spec = tie.close (tie.spec (λ c κs. tt) (λ c. search needs) (λ c κs. tt) same-length returns)

@@ -3,12 +3,6 @@ use Rattle.fringewell.proofs.Through.{performed-through}
 use Rattle.fringewell.proofs.fringewell_append_binary.Statement.{statement}
 use Rattle.fringewell.proofs.fringewell_append_binary.Tie as tie
 
-append-binary-requires : tie.Need-append-binary-requires
-append-binary-requires c κs = tt
-
-of-written-requires : tie.Need-of-written-requires
-of-written-requires c κs = tt
-
 same-length : tie.Need-same-length
 same-length c = c .before .before .before .before .append-binary .kept .0
 
@@ -16,5 +10,4 @@ returns : tie.Need-returns
 returns c = performed-through _ _ _ _ _ _ _ (c .before .before .before .before .append-binary .ensures) (c .of-written .ensures)
 
 pub fringewell-append-binary-spec : {M : Type 1} → statement M
-fringewell-append-binary-spec =
-    tie.close (tie.spec append-binary-requires of-written-requires same-length returns)
+fringewell-append-binary-spec = tie.close (tie.spec (λ c κs. tt) (λ c κs. tt) same-length returns)

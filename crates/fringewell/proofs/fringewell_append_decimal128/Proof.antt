@@ -3,12 +3,6 @@ use Rattle.fringewell.proofs.Through.{performed-through}
 use Rattle.fringewell.proofs.fringewell_append_decimal128.Statement.{statement}
 use Rattle.fringewell.proofs.fringewell_append_decimal128.Tie as tie
 
-append-decimal128-requires : tie.Need-append-decimal128-requires
-append-decimal128-requires c κs = tt
-
-of-written-requires : tie.Need-of-written-requires
-of-written-requires c κs = tt
-
 same-length : tie.Need-same-length
 same-length c = c .before .before .before .before .append-decimal128 .kept .0
 
@@ -16,5 +10,4 @@ returns : tie.Need-returns
 returns c = performed-through _ _ _ _ _ _ _ (c .before .before .before .before .append-decimal128 .ensures) (c .of-written .ensures)
 
 pub fringewell-append-decimal128-spec : {M : Type 1} → statement M
-fringewell-append-decimal128-spec =
-    tie.close (tie.spec append-decimal128-requires of-written-requires same-length returns)
+fringewell-append-decimal128-spec = tie.close (tie.spec (λ c κs. tt) (λ c κs. tt) same-length returns)

@@ -3,12 +3,6 @@ use Rattle.fringewell.proofs.Through.{performed-through}
 use Rattle.fringewell.proofs.fringewell_append_min_key.Statement.{statement}
 use Rattle.fringewell.proofs.fringewell_append_min_key.Tie as tie
 
-append-min-key-requires : tie.Need-append-min-key-requires
-append-min-key-requires c κs = tt
-
-of-written-requires : tie.Need-of-written-requires
-of-written-requires c κs = tt
-
 same-length : tie.Need-same-length
 same-length c = c .before .before .before .before .append-min-key .kept .0
 
@@ -16,5 +10,4 @@ returns : tie.Need-returns
 returns c = performed-through _ _ _ _ _ _ _ (c .before .before .before .before .append-min-key .ensures) (c .of-written .ensures)
 
 pub fringewell-append-min-key-spec : {M : Type 1} → statement M
-fringewell-append-min-key-spec =
-    tie.close (tie.spec append-min-key-requires of-written-requires same-length returns)
+fringewell-append-min-key-spec = tie.close (tie.spec (λ c κs. tt) (λ c κs. tt) same-length returns)

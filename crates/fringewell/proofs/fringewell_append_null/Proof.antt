@@ -3,12 +3,6 @@ use Rattle.fringewell.proofs.Through.{performed-through}
 use Rattle.fringewell.proofs.fringewell_append_null.Statement.{statement}
 use Rattle.fringewell.proofs.fringewell_append_null.Tie as tie
 
-append-null-requires : tie.Need-append-null-requires
-append-null-requires c κs = tt
-
-of-written-requires : tie.Need-of-written-requires
-of-written-requires c κs = tt
-
 same-length : tie.Need-same-length
 same-length c = c .before .before .before .before .append-null .kept .0
 
@@ -16,5 +10,4 @@ returns : tie.Need-returns
 returns c = performed-through _ _ _ _ _ _ _ (c .before .before .before .before .append-null .ensures) (c .of-written .ensures)
 
 pub fringewell-append-null-spec : {M : Type 1} → statement M
-fringewell-append-null-spec =
-    tie.close (tie.spec append-null-requires of-written-requires same-length returns)
+fringewell-append-null-spec = tie.close (tie.spec (λ c κs. tt) (λ c κs. tt) same-length returns)

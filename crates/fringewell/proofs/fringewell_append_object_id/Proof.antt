@@ -3,12 +3,6 @@ use Rattle.fringewell.proofs.Through.{performed-through}
 use Rattle.fringewell.proofs.fringewell_append_object_id.Statement.{statement}
 use Rattle.fringewell.proofs.fringewell_append_object_id.Tie as tie
 
-append-object-id-requires : tie.Need-append-object-id-requires
-append-object-id-requires c κs = tt
-
-of-written-requires : tie.Need-of-written-requires
-of-written-requires c κs = tt
-
 same-length : tie.Need-same-length
 same-length c = c .before .before .before .before .append-object-id .kept .0
 
@@ -16,5 +10,4 @@ returns : tie.Need-returns
 returns c = performed-through _ _ _ _ _ _ _ (c .before .before .before .before .append-object-id .ensures) (c .of-written .ensures)
 
 pub fringewell-append-object-id-spec : {M : Type 1} → statement M
-fringewell-append-object-id-spec =
-    tie.close (tie.spec append-object-id-requires of-written-requires same-length returns)
+fringewell-append-object-id-spec = tie.close (tie.spec (λ c κs. tt) (λ c κs. tt) same-length returns)

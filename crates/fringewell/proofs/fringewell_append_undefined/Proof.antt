@@ -3,12 +3,6 @@ use Rattle.fringewell.proofs.Through.{performed-through}
 use Rattle.fringewell.proofs.fringewell_append_undefined.Statement.{statement}
 use Rattle.fringewell.proofs.fringewell_append_undefined.Tie as tie
 
-append-undefined-requires : tie.Need-append-undefined-requires
-append-undefined-requires c κs = tt
-
-of-written-requires : tie.Need-of-written-requires
-of-written-requires c κs = tt
-
 same-length : tie.Need-same-length
 same-length c = c .before .before .before .before .append-undefined .kept .0
 
@@ -16,5 +10,4 @@ returns : tie.Need-returns
 returns c = performed-through _ _ _ _ _ _ _ (c .before .before .before .before .append-undefined .ensures) (c .of-written .ensures)
 
 pub fringewell-append-undefined-spec : {M : Type 1} → statement M
-fringewell-append-undefined-spec =
-    tie.close (tie.spec append-undefined-requires of-written-requires same-length returns)
+fringewell-append-undefined-spec = tie.close (tie.spec (λ c κs. tt) (λ c κs. tt) same-length returns)

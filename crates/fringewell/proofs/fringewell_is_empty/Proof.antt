@@ -4,14 +4,8 @@ use Rattle.fringewell.proofs.Through.{through}
 use Rattle.fringewell.proofs.fringewell_is_empty.Statement.{statement}
 use Rattle.fringewell.proofs.fringewell_is_empty.Tie as tie
 
-is-empty-requires : tie.Need-is-empty-requires
-is-empty-requires c κs = tt
-
-of-empty-requires : tie.Need-of-empty-requires
-of-empty-requires c κs = tt
-
 returns : tie.Need-returns
 returns c = through emptiness (c .before .is-empty .ensures) (c .of-empty .ensures)
 
 pub fringewell-is-empty-spec : {M : Type 1} → statement M
-fringewell-is-empty-spec = tie.close (tie.spec is-empty-requires of-empty-requires returns)
+fringewell-is-empty-spec = tie.close (tie.spec (λ c κs. tt) (λ c κs. tt) returns)

@@ -5,16 +5,10 @@ use Rattle.fringewell.proofs.Through.{step-through}
 use Rattle.fringewell.proofs.fringewell_step.Statement.{statement}
 use Rattle.fringewell.proofs.fringewell_step.Tie as tie
 
-next-requires : tie.Need-next-requires
-next-requires c κs = tt
-
-of-step-requires : tie.Need-of-step-requires
-of-step-requires c κs = tt
-
 returns : tie.Need-returns
 returns c =
     let s = c .before .before .before in
     step-through unlimited (s .args .document .now) (cursor (s .args .offset) (s .args .ended)) (c .before .next .result) _ (c .before .next .ensures) (c .of-step .ensures)
 
 pub fringewell-step-spec : {M : Type 1} → statement M
-fringewell-step-spec = tie.close (tie.spec next-requires of-step-requires returns)
+fringewell-step-spec = tie.close (tie.spec (λ c κs. tt) (λ c κs. tt) returns)

@@ -3,12 +3,6 @@ use Rattle.fringewell.proofs.Through.{performed-through}
 use Rattle.fringewell.proofs.fringewell_writer_close.Statement.{statement}
 use Rattle.fringewell.proofs.fringewell_writer_close.Tie as tie
 
-close-requires : tie.Need-close-requires
-close-requires c κs = tt
-
-of-written-requires : tie.Need-of-written-requires
-of-written-requires c κs = tt
-
 same-length : tie.Need-same-length
 same-length c = c .before .before .before .before .close .kept .0
 
@@ -16,5 +10,4 @@ returns : tie.Need-returns
 returns c = performed-through _ _ _ _ _ _ _ (c .before .before .before .before .close .ensures) (c .of-written .ensures)
 
 pub fringewell-writer-close-spec : {M : Type 1} → statement M
-fringewell-writer-close-spec =
-    tie.close (tie.spec close-requires of-written-requires same-length returns)
+fringewell-writer-close-spec = tie.close (tie.spec (λ c κs. tt) (λ c κs. tt) same-length returns)

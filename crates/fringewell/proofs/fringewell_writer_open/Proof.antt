@@ -3,12 +3,6 @@ use Rattle.fringewell.proofs.Through.{performed-through}
 use Rattle.fringewell.proofs.fringewell_writer_open.Statement.{statement}
 use Rattle.fringewell.proofs.fringewell_writer_open.Tie as tie
 
-open-top-requires : tie.Need-open-top-requires
-open-top-requires c κs = tt
-
-of-written-requires : tie.Need-of-written-requires
-of-written-requires c κs = tt
-
 same-length : tie.Need-same-length
 same-length c = c .before .before .before .before .open-top .kept .0
 
@@ -16,5 +10,4 @@ returns : tie.Need-returns
 returns c = performed-through _ _ _ _ _ _ _ (c .before .before .before .before .open-top .ensures) (c .of-written .ensures)
 
 pub fringewell-writer-open-spec : {M : Type 1} → statement M
-fringewell-writer-open-spec =
-    tie.close (tie.spec open-top-requires of-written-requires same-length returns)
+fringewell-writer-open-spec = tie.close (tie.spec (λ c κs. tt) (λ c κs. tt) same-length returns)

@@ -3,12 +3,6 @@ use Rattle.fringewell.proofs.Through.{performed-through}
 use Rattle.fringewell.proofs.fringewell_writer_open_document.Statement.{statement}
 use Rattle.fringewell.proofs.fringewell_writer_open_document.Tie as tie
 
-open-document-requires : tie.Need-open-document-requires
-open-document-requires c κs = tt
-
-of-written-requires : tie.Need-of-written-requires
-of-written-requires c κs = tt
-
 same-length : tie.Need-same-length
 same-length c = c .before .before .before .before .open-document .kept .0
 
@@ -16,5 +10,4 @@ returns : tie.Need-returns
 returns c = performed-through _ _ _ _ _ _ _ (c .before .before .before .before .open-document .ensures) (c .of-written .ensures)
 
 pub fringewell-writer-open-document-spec : {M : Type 1} → statement M
-fringewell-writer-open-document-spec =
-    tie.close (tie.spec open-document-requires of-written-requires same-length returns)
+fringewell-writer-open-document-spec = tie.close (tie.spec (λ c κs. tt) (λ c κs. tt) same-length returns)

@@ -7,9 +7,6 @@ use native.Mathlib.Omega.{arith}
 use Rattle.iter.proofs.advance.Statement.{statement}
 use Rattle.iter.proofs.advance.Tie as tie
 
-sizes-at-requires : tie.Need-sizes-at-requires
-sizes-at-requires c κs = tt
-
 enum-told : tie.Need-enum-told
 enum-told c = c .match .keys1
 
@@ -43,15 +40,4 @@ returns-3 c = rw (answered (saidSizes _) (c .before .before .before .sizes-at .e
 pub advance-spec : {M : Type 1} → statement M
 advance-spec =
     tie.close
-    (tie.spec
-    sizes-at-requires
-    enum-told
-    enum-known-number
-    enum-known-tag
-    add-start
-    add-behind
-    add-behind-2
-    add-end
-    returns
-    returns-2
-    returns-3)
+    (tie.spec (λ c κs. tt) enum-told enum-known-number enum-known-tag add-start add-behind add-behind-2 add-end returns returns-2 returns-3)

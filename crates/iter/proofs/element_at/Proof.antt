@@ -35,29 +35,11 @@ module _ (limit : Limit) (s : List ℕ) (p k : ℕ) (key : cstringUnder limit (r
   valued (gives n) e = rw (← ap (cstringUnder limit) (rest-part s (p + 1)), key, ← ap (valueSizeUnder limit _) (rest-part s (p + 1 + k + 1)), e)
   valued (refuses n q) e = rw (← ap (cstringUnder limit) (rest-part s (p + 1)), key, ← ap (valueSizeUnder limit _) (rest-part s (p + 1 + k + 1)), e)
 
-add-start : tie.Need-add-start
-add-start c = search needs
-
-sub-read-cstring-with-max-len : tie.Need-sub-read-cstring-with-max-len
-sub-read-cstring-with-max-len c = search needs
-
-part-read-cstring-with-max-len-start : tie.Need-part-read-cstring-with-max-len-start
-part-read-cstring-with-max-len-start c = search needs
-
-part-read-cstring-with-max-len-end : tie.Need-part-read-cstring-with-max-len-end
-part-read-cstring-with-max-len-end c = search needs
-
-read-cstring-with-max-len-requires : tie.Need-read-cstring-with-max-len-requires
-read-cstring-with-max-len-requires c κs = tt
-
 enum-known-number : tie.Need-enum-known-number
 enum-known-number c = c .match .keys1
 
 enum-known-key : tie.Need-enum-known-key
 enum-known-key c = c .match .keys2
-
-shared-slice-read-tag : tie.Need-shared-slice-read-tag
-shared-slice-read-tag c = search needs
 
 add-offset : tie.Need-add-offset
 add-offset c =
@@ -82,12 +64,6 @@ part-value-len-start c =
     let b = c .before .before in
     let a = b .before .before .before .before .before .args in
     omega (arith, key-below _ (a .s .now) (a .place) _ (answered saidLength (b .before .before .read-cstring-with-max-len .ensures) (b .key .given .1)))
-
-part-value-len-end : tie.Need-part-value-len-end
-part-value-len-end c = search needs
-
-value-len-requires : tie.Need-value-len-requires
-value-len-requires c κs = tt
 
 enum-known-number-2 : tie.Need-enum-known-number-2
 enum-known-number-2 c = c .match2 .keys1
@@ -114,20 +90,20 @@ pub element-at-spec : {M : Type 1} → statement M
 element-at-spec =
     tie.close
     (tie.spec
-    add-start
-    sub-read-cstring-with-max-len
-    part-read-cstring-with-max-len-start
-    part-read-cstring-with-max-len-end
-    read-cstring-with-max-len-requires
+    (λ c. search needs)
+    (λ c. search needs)
+    (λ c. search needs)
+    (λ c. search needs)
+    (λ c κs. tt)
     enum-known-number
     enum-known-key
-    shared-slice-read-tag
+    (λ c. search needs)
     add-offset
     add-offset-2
     sub-value-len
     part-value-len-start
-    part-value-len-end
-    value-len-requires
+    (λ c. search needs)
+    (λ c κs. tt)
     enum-known-number-2
     enum-known-value
     returns

@@ -6,27 +6,6 @@ use borrow.Author.Needs.{needs}
 use Rattle.iter.proofs.key_at_under.Statement.{statement}
 use Rattle.iter.proofs.key_at_under.Tie as tie
 
-next-under-requires : tie.Need-next-under-requires
-next-under-requires c κs = search needs
-
-enum-known-element : tie.Need-enum-known-element
-enum-known-element c = search needs
-
-bytes-of-requires : tie.Need-bytes-of-requires
-bytes-of-requires c κs = search needs
-
-enum-told : tie.Need-enum-told
-enum-told c = search needs
-
-slice-aggregate-result : tie.Need-slice-aggregate-result
-slice-aggregate-result c = search needs
-
-enum-told-2 : tie.Need-enum-told-2
-enum-told-2 c = search needs
-
-slice-aggregate-result-2 : tie.Need-slice-aggregate-result-2
-slice-aggregate-result-2 c = search needs
-
 returns : tie.Need-returns
 unfolding keyAtUnder
 returns c =
@@ -45,13 +24,13 @@ pub key-at-under-spec : {M : Type 1} → statement M
 key-at-under-spec =
     tie.close
     (tie.spec
-    next-under-requires
-    enum-known-element
-    bytes-of-requires
-    enum-told
-    slice-aggregate-result
-    enum-told-2
-    slice-aggregate-result-2
+    (λ c κs. search needs)
+    (λ c. search needs)
+    (λ c κs. search needs)
+    (λ c. search needs)
+    (λ c. search needs)
+    (λ c. search needs)
+    (λ c. search needs)
     returns
     returns-2
     returns-3)

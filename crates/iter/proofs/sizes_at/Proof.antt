@@ -42,9 +42,6 @@ module _ (s : List ℕ) (n offset : ℕ) (a : admitted s ≡ gives n) where
         let f = admitted-says s n a .0 in
         step-outside limit s n a offset (rw (le-leb 4 offset (omega arith), lt-leb offset (terminator s) (omega arith)))
 
-admit-requires : tie.Need-admit-requires
-admit-requires c κs = tt
-
 enum-known-number : tie.Need-enum-known-number
 enum-known-number c = c .match .keys1
 
@@ -89,7 +86,7 @@ pub sizes-at-spec : {M : Type 1} → statement M
 sizes-at-spec =
     tie.close
     (tie.spec
-    admit-requires
+    (λ c κs. tt)
     enum-known-number
     enum-known-n
     sub-terminator

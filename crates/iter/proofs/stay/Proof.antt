@@ -6,9 +6,6 @@ use Rattle.part.specs.Said.{saidLength}
 use Rattle.iter.proofs.stay.Statement.{statement}
 use Rattle.iter.proofs.stay.Tie as tie
 
-admit-requires : tie.Need-admit-requires
-admit-requires c κs = tt
-
 enum-known-number : tie.Need-enum-known-number
 enum-known-number c = c .match .keys1
 
@@ -22,4 +19,4 @@ returns-2 : tie.Need-returns-2
 returns-2 c = rw (step-ended _ _ _ (answered saidLength (c .before .before .admit .ensures) (c .enum-told .given .1))) (refl, refl)
 
 pub stay-spec : {M : Type 1} → statement M
-stay-spec = tie.close (tie.spec admit-requires enum-known-number enum-told returns returns-2)
+stay-spec = tie.close (tie.spec (λ c κs. tt) enum-known-number enum-told returns returns-2)

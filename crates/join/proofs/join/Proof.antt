@@ -8,24 +8,6 @@ use Rattle.join.proofs.Order.{first-refused, second-refused, both-pass}
 use Rattle.join.proofs.join.Statement.{statement}
 use Rattle.join.proofs.join.Tie as tie
 
-check-requires : tie.Need-check-requires
-check-requires c κs = tt
-
-enum-known-number : tie.Need-enum-known-number
-enum-known-number c = search needs
-
-enum-told : tie.Need-enum-told
-enum-told c = search needs
-
-check-requires-2 : tie.Need-check-requires-2
-check-requires-2 c κs = tt
-
-enum-known-number-2 : tie.Need-enum-known-number-2
-enum-known-number-2 c = search needs
-
-enum-told-2 : tie.Need-enum-told-2
-enum-told-2 c = search needs
-
 put-both-requires : tie.Need-put-both-requires
 put-both-requires c κs =
     let n = c .before .before in
@@ -48,9 +30,6 @@ returns-2 c =
     second-refused (s .args .first .now) (s .args .second .now) (s .args .out .now) _ (answered said (m .before .check .ensures) (n .before .before .enum-told .given .1)) _ _
     (answered said (n .before .check2 .ensures) (c .before .number2 .given .1))
 
-same-length : tie.Need-same-length
-same-length c = search needs
-
 returns-3 : tie.Need-returns-3
 returns-3 c =
     let p = c .before .before in
@@ -64,14 +43,14 @@ pub join-spec : {M : Type 1} → statement M
 join-spec =
     tie.close
     (tie.spec
-    check-requires
-    enum-known-number
-    enum-told
-    check-requires-2
-    enum-known-number-2
-    enum-told-2
+    (λ c κs. tt)
+    (λ c. search needs)
+    (λ c. search needs)
+    (λ c κs. tt)
+    (λ c. search needs)
+    (λ c. search needs)
     put-both-requires
     returns
     returns-2
-    same-length
+    (λ c. search needs)
     returns-3)

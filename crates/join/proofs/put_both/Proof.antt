@@ -5,64 +5,10 @@ use Rattle.join.proofs.Bodies.{no-room, has-room}
 use Rattle.join.proofs.put_both.Statement.{statement}
 use Rattle.join.proofs.put_both.Tie as tie
 
-add-size : tie.Need-add-size
-add-size c = search needs
-
-sub-size : tie.Need-sub-size
-sub-size c = search needs
-
-room-of-requires : tie.Need-room-of-requires
-room-of-requires c κs = tt
-
 returns : tie.Need-returns
 returns c =
     let s = c .before .before .before .before .before in
     no-room (s .args .first .now) (s .args .second .now) (s .args .out .now) _ (c .before .room-of .ensures) (c .if1 .taken)
-
-bytes32-requires : tie.Need-bytes32-requires
-bytes32-requires c κs = tt
-
-sub-first-end : tie.Need-sub-first-end
-sub-first-end c = search needs
-
-sub-second-end : tie.Need-sub-second-end
-sub-second-end c = search needs
-
-slice-aggregate-put-text : tie.Need-slice-aggregate-put-text
-slice-aggregate-put-text c = search needs
-
-put-text-requires : tie.Need-put-text-requires
-put-text-requires c κs = tt
-
-sub-put-text : tie.Need-sub-put-text
-sub-put-text c = search needs
-
-part-put-text-start : tie.Need-part-put-text-start
-part-put-text-start c = search needs
-
-part-put-text-end : tie.Need-part-put-text-end
-part-put-text-end c = search needs
-
-put-text-requires-2 : tie.Need-put-text-requires-2
-put-text-requires-2 c κs = tt
-
-sub-put-text-2 : tie.Need-sub-put-text-2
-sub-put-text-2 c = search needs
-
-part-put-text-start-2 : tie.Need-part-put-text-start-2
-part-put-text-start-2 c = search needs
-
-part-put-text-end-2 : tie.Need-part-put-text-end-2
-part-put-text-end-2 c = search needs
-
-put-text-requires-3 : tie.Need-put-text-requires-3
-put-text-requires-3 c κs = tt
-
-slice-aggregate-put-text-2 : tie.Need-slice-aggregate-put-text-2
-slice-aggregate-put-text-2 c = search needs
-
-put-text-requires-4 : tie.Need-put-text-requires-4
-put-text-requires-4 c κs = tt
 
 same-length : tie.Need-same-length
 same-length c =
@@ -88,24 +34,24 @@ pub put-both-spec : {M : Type 1} → statement M
 put-both-spec =
     tie.close
     (tie.spec
-    add-size
-    sub-size
-    room-of-requires
+    (λ c. search needs)
+    (λ c. search needs)
+    (λ c κs. tt)
     returns
-    bytes32-requires
-    sub-first-end
-    sub-second-end
-    slice-aggregate-put-text
-    put-text-requires
-    sub-put-text
-    part-put-text-start
-    part-put-text-end
-    put-text-requires-2
-    sub-put-text-2
-    part-put-text-start-2
-    part-put-text-end-2
-    put-text-requires-3
-    slice-aggregate-put-text-2
-    put-text-requires-4
+    (λ c κs. tt)
+    (λ c. search needs)
+    (λ c. search needs)
+    (λ c. search needs)
+    (λ c κs. tt)
+    (λ c. search needs)
+    (λ c. search needs)
+    (λ c. search needs)
+    (λ c κs. tt)
+    (λ c. search needs)
+    (λ c. search needs)
+    (λ c. search needs)
+    (λ c κs. tt)
+    (λ c. search needs)
+    (λ c κs. tt)
     same-length
     returns-2)

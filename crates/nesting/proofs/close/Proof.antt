@@ -6,17 +6,8 @@ use Rattle.nesting.proofs.Turns.{close-refused, closable, ends-within, 
 use Rattle.nesting.proofs.close.Statement.{statement}
 use Rattle.nesting.proofs.close.Tie as tie
 
-room-of-requires : tie.Need-room-of-requires
-room-of-requires c κs = tt
-
-innermost-requires : tie.Need-innermost-requires
-innermost-requires c κs = tt
-
 enum-told : tie.Need-enum-told
 enum-told c = c .match .keys1
-
-used-requires : tie.Need-used-requires
-used-requires c κs = tt
 
 start-of-requires : tie.Need-start-of-requires
 start-of-requires c κs =
@@ -66,10 +57,10 @@ pub close-spec : {M : Type 1} → statement M
 close-spec =
     tie.close
     (tie.spec
-    room-of-requires
-    innermost-requires
+    (λ c κs. tt)
+    (λ c κs. tt)
     enum-told
-    used-requires
+    (λ c κs. tt)
     start-of-requires
     seal-requires
     pop-requires

@@ -4,9 +4,6 @@ use Rattle.nesting.specs.Opened.{openedAs}
 use Rattle.nesting.proofs.open_document.Statement.{statement}
 use Rattle.nesting.proofs.open_document.Tie as tie
 
-open-in-requires : tie.Need-open-in-requires
-open-in-requires c κs = tt
-
 same-length : tie.Need-same-length
 same-length c = c .before .before .open-in .kept .0
 
@@ -15,4 +12,4 @@ unfolding performed answer openedIn openedAs
 returns c = c .before .before .open-in .ensures
 
 pub open-document-spec : {M : Type 1} → statement M
-open-document-spec = tie.close (tie.spec open-in-requires same-length returns)
+open-document-spec = tie.close (tie.spec (λ c κs. tt) same-length returns)

@@ -8,21 +8,9 @@ use borrow.Author.Needs.{needs}
 use Rattle.nesting.proofs.open_in.Statement.{statement}
 use Rattle.nesting.proofs.open_in.Tie as tie
 
-head-requires : tie.Need-head-requires
-head-requires c κs = search needs
-
-element-copy-out-start : tie.Need-element-copy-out-start
-element-copy-out-start c = search needs
-
 sub-start : tie.Need-sub-start
 sub-start c =
     head-ready _ _ _ _ _ _ _ _ _ _ (c .before .before .before .before .head .ensures) (c .before .if1 .taken) _ refl
-
-wide-requires : tie.Need-wide-requires
-wide-requires c κs = search needs
-
-put-bytes32-requires : tie.Need-put-bytes32-requires
-put-bytes32-requires c κs = search needs
 
 push-requires : tie.Need-push-requires
 push-requires c κs =
@@ -33,9 +21,6 @@ push-requires c κs =
     (p .before .wide .ensures .0) (_ ∷ []) (append-nil _) _ _ (p .put-bytes32 .ensures) in
     opened-ready _ _ _ 0 _ _ _ _ e (i .if1 .taken)
 
-same-length : tie.Need-same-length
-same-length c = search needs
-
 returns : tie.Need-returns
 returns c =
     let p = c .before .before .before .before in
@@ -44,9 +29,6 @@ returns c =
     let e = value-put _ _ _ _ _ _ _ _ (sym (length-bytes32 5)) _ _ _ (h .head .ensures) (i .if1 .taken) (h .head .kept .0) _
     (p .before .wide .ensures .0) (_ ∷ []) (append-nil _) _ _ (p .put-bytes32 .ensures) in
     opened-done _ _ _ _ _ _ _ _ e (i .if1 .taken) _ (c .push .ensures)
-
-same-length-2 : tie.Need-same-length-2
-same-length-2 c = search needs
 
 returns-2 : tie.Need-returns-2
 returns-2 c =
@@ -57,13 +39,13 @@ pub open-in-spec : {M : Type 1} → statement M
 open-in-spec =
     tie.close
     (tie.spec
-    head-requires
-    element-copy-out-start
+    (λ c κs. search needs)
+    (λ c. search needs)
     sub-start
-    wide-requires
-    put-bytes32-requires
+    (λ c κs. search needs)
+    (λ c κs. search needs)
     push-requires
-    same-length
+    (λ c. search needs)
     returns
-    same-length-2
+    (λ c. search needs)
     returns-2)

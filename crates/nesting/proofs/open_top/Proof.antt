@@ -6,15 +6,6 @@ use Rattle.nesting.proofs.Turns.{top-impossible, top-twice, top-narrow,
 use Rattle.nesting.proofs.open_top.Statement.{statement}
 use Rattle.nesting.proofs.open_top.Tie as tie
 
-room-of-requires : tie.Need-room-of-requires
-room-of-requires c κs = tt
-
-possible-requires : tie.Need-possible-requires
-possible-requires c κs = tt
-
-depth-requires : tie.Need-depth-requires
-depth-requires c κs = tt
-
 returns : tie.Need-returns
 returns c =
     let p = c .before .before .before .before .before in
@@ -24,9 +15,6 @@ returns c =
 
 slice-aggregate-put-text : tie.Need-slice-aggregate-put-text
 slice-aggregate-put-text c = refl
-
-put-text-requires : tie.Need-put-text-requires
-put-text-requires c κs = tt
 
 element-write-words : tie.Need-element-write-words
 element-write-words c = lit< tt
@@ -66,12 +54,12 @@ pub open-top-spec : {M : Type 1} → statement M
 open-top-spec =
     tie.close
     (tie.spec
-    room-of-requires
-    possible-requires
-    depth-requires
+    (λ c κs. tt)
+    (λ c κs. tt)
+    (λ c κs. tt)
     returns
     slice-aggregate-put-text
-    put-text-requires
+    (λ c κs. tt)
     element-write-words
     push-requires
     same-length

@@ -5,9 +5,6 @@ use Rattle.nesting.specs.Opened.{pushedAt}
 use Rattle.nesting.proofs.push.Statement.{statement}
 use Rattle.nesting.proofs.push.Tie as tie
 
-depth-requires : tie.Need-depth-requires
-depth-requires c κs = tt
-
 mul-words : tie.Need-mul-words
 mul-words c = omega arith
 
@@ -49,7 +46,7 @@ pub push-spec : {M : Type 1} → statement M
 push-spec =
     tie.close
     (tie.spec
-    depth-requires
+    (λ c κs. tt)
     mul-words
     add-words
     mul-words-2

@@ -10,12 +10,6 @@ use borrow.Author.Needs.{needs}
 use Rattle.nesting.proofs.put_length.Statement.{statement}
 use Rattle.nesting.proofs.put_length.Tie as tie
 
-put-bytes32-requires : tie.Need-put-bytes32-requires
-put-bytes32-requires c κs = search needs
-
-same-length : tie.Need-same-length
-same-length c = search needs
-
 returns : tie.Need-returns
 returns c =
     let p = c .before .before in
@@ -24,4 +18,4 @@ returns c =
     ap (λ (o : Output). o .buffer) (p .put-bytes32 .ensures ∙ text-fits _ _ (bytes32 (a .n)) (omega arith))
 
 pub put-length-spec : {M : Type 1} → statement M
-put-length-spec = tie.close (tie.spec put-bytes32-requires same-length returns)
+put-length-spec = tie.close (tie.spec (λ c κs. search needs) (λ c. search needs) returns)

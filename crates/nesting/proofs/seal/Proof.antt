@@ -12,9 +12,6 @@ use Rattle.nesting.proofs.seal.Tie as tie
 slice-aggregate-put-text : tie.Need-slice-aggregate-put-text
 slice-aggregate-put-text c = refl
 
-put-text-requires : tie.Need-put-text-requires
-put-text-requires c κs = tt
-
 add-put-length : tie.Need-add-put-length
 add-put-length c = omega arith
 
@@ -35,13 +32,4 @@ returns c =
     c .before .before .put-length .ensures ∙ ap (λ (b : List ℕ). put b (a .start) (bytes32 (a .used + 1 - a .start))) e
 
 pub seal-spec : {M : Type 1} → statement M
-seal-spec =
-    tie.close
-    (tie.spec
-    slice-aggregate-put-text
-    put-text-requires
-    add-put-length
-    sub-put-length
-    put-length-requires
-    same-length
-    returns)
+seal-spec = tie.close (tie.spec slice-aggregate-put-text (λ c κs. tt) add-put-length sub-put-length put-length-requires same-length returns)

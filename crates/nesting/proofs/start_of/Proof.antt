@@ -6,9 +6,6 @@ use lib.ListN.{getD}
 use Rattle.nesting.proofs.start_of.Statement.{statement}
 use Rattle.nesting.proofs.start_of.Tie as tie
 
-depth-requires : tie.Need-depth-requires
-depth-requires c κs = tt
-
 sub-wide : tie.Need-sub-wide
 sub-wide c = omega arith
 
@@ -24,23 +21,10 @@ mul-wide-2 c = omega arith
 element-copy-out-wide : tie.Need-element-copy-out-wide
 element-copy-out-wide c = omega arith
 
-wide-requires : tie.Need-wide-requires
-wide-requires c κs = tt
-
 returns : tie.Need-returns
 returns c =
     let w = c .before .before .before .args .words .now in
     c .wide .ensures .0 ∙ ap (λ (d : ℕ). getD w (2 + 2 * (d - 1)) 0) (c .before .before .depth .ensures .0)
 
 pub start-of-spec : {M : Type 1} → statement M
-start-of-spec =
-    tie.close
-    (tie.spec
-    depth-requires
-    sub-wide
-    mul-wide
-    add-wide
-    mul-wide-2
-    element-copy-out-wide
-    wide-requires
-    returns)
+start-of-spec = tie.close (tie.spec (λ c κs. tt) sub-wide mul-wide add-wide mul-wide-2 element-copy-out-wide (λ c κs. tt) returns)

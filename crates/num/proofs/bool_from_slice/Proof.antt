@@ -10,20 +10,13 @@ returns : tie.Need-returns
 unfolding fits bool
 returns c = rw (lt-leb 1 _ (c .if1 .taken))
 
-shared-slice-read-if2 : tie.Need-shared-slice-read-if2
-shared-slice-read-if2 c = search needs
-
 returns-2 : tie.Need-returns-2
 unfolding fits bool
 returns-2 c = rw (le-leb 1 _ (c .before .before .if1 .left), lt-leb _ 1 (c .if2 .taken))
-
-shared-slice-read-t5 : tie.Need-shared-slice-read-t5
-shared-slice-read-t5 c = search needs
 
 returns-3 : tie.Need-returns-3
 unfolding fits bool
 returns-3 c = rw (le-leb 1 _ (c .before .before .before .if1 .left), le-leb _ 1 (c .before .if2 .left))
 
 pub bool-from-slice-spec : {M : Type 1} → statement M
-bool-from-slice-spec =
-    tie.close (tie.spec returns shared-slice-read-if2 returns-2 shared-slice-read-t5 returns-3)
+bool-from-slice-spec = tie.close (tie.spec returns (λ c. search needs) returns-2 (λ c. search needs) returns-3)

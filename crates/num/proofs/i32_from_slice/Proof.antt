@@ -8,12 +8,6 @@ use borrow.Author.Needs.{needs}
 use Rattle.num.proofs.i32_from_slice.Statement.{statement}
 use Rattle.num.proofs.i32_from_slice.Tie as tie
 
-word-requires : tie.Need-word-requires
-word-requires c κs = search needs
-
-signed32-requires : tie.Need-signed32-requires
-signed32-requires c κs = search needs
-
 returns : tie.Need-returns
 unfolding fits i32
 returns c =
@@ -25,4 +19,4 @@ unfolding fits
 returns-2 c = rw (lt-leb _ _ (c .if1 .left))
 
 pub i32-from-slice-spec : {M : Type 1} → statement M
-i32-from-slice-spec = tie.close (tie.spec word-requires signed32-requires returns returns-2)
+i32-from-slice-spec = tie.close (tie.spec (λ c κs. search needs) (λ c κs. search needs) returns returns-2)

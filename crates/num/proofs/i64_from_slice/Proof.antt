@@ -8,12 +8,6 @@ use borrow.Author.Needs.{needs}
 use Rattle.num.proofs.i64_from_slice.Statement.{statement}
 use Rattle.num.proofs.i64_from_slice.Tie as tie
 
-double-word-requires : tie.Need-double-word-requires
-double-word-requires c κs = search needs
-
-signed64-requires : tie.Need-signed64-requires
-signed64-requires c κs = search needs
-
 returns : tie.Need-returns
 unfolding fits i64
 returns c =
@@ -25,4 +19,4 @@ unfolding fits
 returns-2 c = rw (lt-leb _ _ (c .if1 .left))
 
 pub i64-from-slice-spec : {M : Type 1} → statement M
-i64-from-slice-spec = tie.close (tie.spec double-word-requires signed64-requires returns returns-2)
+i64-from-slice-spec = tie.close (tie.spec (λ c κs. search needs) (λ c κs. search needs) returns returns-2)

@@ -8,12 +8,6 @@ use borrow.Author.Needs.{needs}
 use Rattle.num.proofs.signed32.Statement.{statement}
 use Rattle.num.proofs.signed32.Tie as tie
 
-cast-result : tie.Need-cast-result
-cast-result c = search needs
-
-sub-result : tie.Need-sub-result
-sub-result c = search needs
-
 cast-result-2 : tie.Need-cast-result-2
 cast-result-2 c = search needs
 
@@ -27,5 +21,4 @@ returns-2 : tie.Need-returns-2
 returns-2 c = back w32 0x8000_0000 (c .before .args .x) (4294967295 - c .before .args .x) (omega arith) (omega arith) (omega arith)
 
 pub signed32-spec : {M : Type 1} → statement M
-signed32-spec =
-    tie.close (tie.spec cast-result sub-result cast-result-2 sub-result-2 returns returns-2)
+signed32-spec = tie.close (tie.spec (λ c. search needs) (λ c. search needs) cast-result-2 sub-result-2 returns returns-2)

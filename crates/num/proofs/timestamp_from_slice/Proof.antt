@@ -33,21 +33,6 @@ module _ (v : List ℕ) where
 returns : tie.Need-returns
 returns c = too-short _ (c .if1 .taken)
 
-word-requires : tie.Need-word-requires
-word-requires c κs = search needs
-
-sub-word : tie.Need-sub-word
-sub-word c = search needs
-
-part-word-start : tie.Need-part-word-start
-part-word-start c = search needs
-
-part-word-end : tie.Need-part-word-end
-part-word-end c = search needs
-
-word-requires-2 : tie.Need-word-requires-2
-word-requires-2 c κs = search needs
-
 returns-2 : tie.Need-returns-2
 returns-2 c =
     let b = c .before .before in
@@ -58,11 +43,4 @@ returns-2 c =
 pub timestamp-from-slice-spec : {M : Type 1} → statement M
 timestamp-from-slice-spec =
     tie.close
-    (tie.spec
-    returns
-    word-requires
-    sub-word
-    part-word-start
-    part-word-end
-    word-requires-2
-    returns-2)
+    (tie.spec returns (λ c κs. search needs) (λ c. search needs) (λ c. search needs) (λ c. search needs) (λ c κs. search needs) returns-2)

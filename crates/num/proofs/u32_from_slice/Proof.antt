@@ -5,9 +5,6 @@ use borrow.Author.Needs.{needs}
 use Rattle.num.proofs.u32_from_slice.Statement.{statement}
 use Rattle.num.proofs.u32_from_slice.Tie as tie
 
-word-requires : tie.Need-word-requires
-word-requires c κs = search needs
-
 returns : tie.Need-returns
 unfolding fits
 returns c = rw (le-leb _ _ (c .before .if1 .taken), c .word .ensures)
@@ -17,4 +14,4 @@ unfolding fits
 returns-2 c = rw (lt-leb _ _ (c .if1 .left))
 
 pub u32-from-slice-spec : {M : Type 1} → statement M
-u32-from-slice-spec = tie.close (tie.spec word-requires returns returns-2)
+u32-from-slice-spec = tie.close (tie.spec (λ c κs. search needs) returns returns-2)

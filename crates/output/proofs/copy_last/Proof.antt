@@ -5,18 +5,6 @@ use borrow.Author.Needs.{needs}
 use Rattle.output.proofs.copy_last.Statement.{statement}
 use Rattle.output.proofs.copy_last.Tie as tie
 
-shared-slice-read-out : tie.Need-shared-slice-read-out
-shared-slice-read-out c = search needs
-
-add-out : tie.Need-add-out
-add-out c = search needs
-
-slice-write-out : tie.Need-slice-write-out
-slice-write-out c = search needs
-
-same-length : tie.Need-same-length
-same-length c = search needs
-
 returns : tie.Need-returns
 returns c = let s = c .before .before in one-stored _ _ _ _ (c .before .if1 .taken) (s .pre .1) (omega arith)
 
@@ -24,6 +12,4 @@ returns-2 : tie.Need-returns-2
 returns-2 c = none-stored _ _ _ _ (c .if1 .left)
 
 pub copy-last-spec : {M : Type 1} → statement M
-copy-last-spec =
-    tie.close
-    (tie.spec shared-slice-read-out add-out slice-write-out same-length returns returns-2)
+copy-last-spec = tie.close (tie.spec (λ c. search needs) (λ c. search needs) (λ c. search needs) (λ c. search needs) returns returns-2)

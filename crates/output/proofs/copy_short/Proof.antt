@@ -20,21 +20,6 @@ abbrev μ-loop : tie.MeasureT-loop
 loop-holds : tie.Need-loop-holds Inv-loop μ-loop
 loop-holds c = let s = c .before .before in (omega arith, refl, sym (put-nil (s .args .out .now) (s .args .at)))
 
-sub-loop : tie.Need-sub-loop Inv-loop μ-loop
-sub-loop c = search needs
-
-add-copy-four : tie.Need-add-copy-four Inv-loop μ-loop
-add-copy-four c = search needs
-
-copy-four-requires : tie.Need-copy-four-requires Inv-loop μ-loop
-copy-four-requires c κs = search needs
-
-add-i : tie.Need-add-i Inv-loop μ-loop
-add-i c = search needs
-
-loop-less : tie.Need-loop-less Inv-loop μ-loop
-loop-less c = search needs
-
 loop-again : tie.Need-loop-again Inv-loop μ-loop
 loop-again c =
     let f = c .before .before in
@@ -42,12 +27,6 @@ loop-again c =
     let s = f .before .before .before .before .before .before in
     let b = ap (λ (b : List ℕ). put b (s .args .at + l .i) (take 4 (drop (l .i) (s .args .text .now)))) (l .inv .2) in
     (omega arith, f .copy-four .kept .0 ∙ l .inv .1, f .copy-four .ensures ∙ b ∙ then-more (s .args .out .now) (s .args .at) (s .args .text .now) (l .i) (omega arith) (omega arith) 4 (omega arith))
-
-copy-rest-requires : tie.Need-copy-rest-requires Inv-loop μ-loop
-copy-rest-requires c κs = search needs
-
-same-length : tie.Need-same-length Inv-loop μ-loop
-same-length c = search needs
 
 returns : tie.Need-returns Inv-loop μ-loop
 returns c =
@@ -64,12 +43,12 @@ copy-short-spec =
     Inv-loop
     μ-loop
     loop-holds
-    sub-loop
-    add-copy-four
-    copy-four-requires
-    add-i
-    loop-less
+    (λ c. search needs)
+    (λ c. search needs)
+    (λ c κs. search needs)
+    (λ c. search needs)
+    (λ c. search needs)
     loop-again
-    copy-rest-requires
-    same-length
+    (λ c κs. search needs)
+    (λ c. search needs)
     returns)

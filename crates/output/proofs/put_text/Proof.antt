@@ -9,9 +9,6 @@ use Rattle.laws.proofs.OutputLaws.{text-put, text-left}
 use Rattle.output.proofs.put_text.Statement.{statement}
 use Rattle.output.proofs.put_text.Tie as tie
 
-fits-requires : tie.Need-fits-requires
-fits-requires c κs = search needs
-
 copy-requires : tie.Need-copy-requires
 copy-requires c κs =
     let b = c .before in
@@ -24,9 +21,6 @@ add-result c =
     let a = b .before .before .before .before .args in
     omega (arith, leb-true (a .at + length (a .text .now)) (length (a .out .now)) (sym (b .before .fits2 .ensures) ∙ b .if1 .taken))
 
-same-length : tie.Need-same-length
-same-length c = search needs
-
 returns : tie.Need-returns
 returns c =
     let b = c .before .before .before .before in
@@ -36,5 +30,4 @@ returns-2 : tie.Need-returns-2
 returns-2 c = text-left _ _ _ _ refl (sym (c .before .fits2 .ensures) ∙ c .if1 .left)
 
 pub put-text-spec : {M : Type 1} → statement M
-put-text-spec =
-    tie.close (tie.spec fits-requires copy-requires add-result same-length returns returns-2)
+put-text-spec = tie.close (tie.spec (λ c κs. search needs) copy-requires add-result (λ c. search needs) returns returns-2)

@@ -6,14 +6,8 @@ use lib.ListN.{List·getD-eq-default}
 use Rattle.part.proofs.byte_or_zero.Statement.{statement}
 use Rattle.part.proofs.byte_or_zero.Tie as tie
 
-shared-slice-read-result : tie.Need-shared-slice-read-result
-shared-slice-read-result c = search needs
-
-returns : tie.Need-returns
-returns c = search needs
-
 returns-2 : tie.Need-returns-2
 returns-2 c = sym (List·getD-eq-default (c .before .args .s .now) 0 (omega arith))
 
 pub byte-or-zero-spec : {M : Type 1} → statement M
-byte-or-zero-spec = tie.close (tie.spec shared-slice-read-result returns returns-2)
+byte-or-zero-spec = tie.close (tie.spec (λ c. search needs) (λ c. search needs) returns-2)

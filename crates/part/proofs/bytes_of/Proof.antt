@@ -10,24 +10,12 @@ use Rattle.laws.proofs.Common.{rest-part}
 use Rattle.part.proofs.bytes_of.Statement.{statement}
 use Rattle.part.proofs.bytes_of.Tie as tie
 
-slice-aggregate-result : tie.Need-slice-aggregate-result
-slice-aggregate-result c = search needs
-
 returns : tie.Need-returns
 unfolding bytes
 returns c =
     let a = c .before .before .args in
     let h : length (a .s .now) ≤ a .part .offset = omega arith in
     rw (drop-of-length-le (a .s .now) h) (sym (take-nil (a .part .size)))
-
-sub-rest : tie.Need-sub-rest
-sub-rest c = search needs
-
-part-rest-start : tie.Need-part-rest-start
-part-rest-start c = search needs
-
-part-rest-end : tie.Need-part-rest-end
-part-rest-end c = search needs
 
 returns-2 : tie.Need-returns-2
 unfolding bytes
@@ -46,11 +34,11 @@ pub bytes-of-spec : {M : Type 1} → statement M
 bytes-of-spec =
     tie.close
     (tie.spec
-    slice-aggregate-result
+    (λ c. search needs)
     returns
-    sub-rest
-    part-rest-start
-    part-rest-end
+    (λ c. search needs)
+    (λ c. search needs)
+    (λ c. search needs)
     returns-2
     slice-aggregate-result-2
     returns-3)

@@ -11,15 +11,6 @@ use native.Mathlib.Omega.{arith}
 use Rattle.raw.proofs.admit.Statement.{statement}
 use Rattle.raw.proofs.admit.Tie as tie
 
-u32-from-slice-requires : tie.Need-u32-from-slice-requires
-u32-from-slice-requires c κs = search needs
-
-enum-told : tie.Need-enum-told
-enum-told c = search needs
-
-enum-known-n : tie.Need-enum-known-n
-enum-known-n c = search needs
-
 returns : tie.Need-returns
 unfolding admitted
 returns c = rw (lt-leb _ _ (c .if1 .taken))
@@ -31,21 +22,12 @@ returns-2 c =
     let e = in-front-is 4 le32 _ _ (answered saidUint32 (d .before .before .u32-from-slice .ensures) (d .n .given .1)) in
     rw (le-leb _ _ (c .before .if1 .left), e .1, le-ltb _ _ (c .if2 .taken))
 
-cast-if3 : tie.Need-cast-if3
-cast-if3 c = search needs
-
 returns-3 : tie.Need-returns-3
 unfolding admitted
 returns-3 c =
     let d = c .before .before .before .before in
     let e = in-front-is 4 le32 _ _ (answered saidUint32 (d .before .before .u32-from-slice .ensures) (d .n .given .1)) in
     rw (le-leb _ _ (c .before .before .if1 .left), e .1, lt-ltb _ _ (c .before .if2 .left), ne-eqb _ _ (c .if3 .taken))
-
-sub-if4 : tie.Need-sub-if4
-sub-if4 c = search needs
-
-shared-slice-read-if4 : tie.Need-shared-slice-read-if4
-shared-slice-read-if4 c = search needs
 
 returns-4 : tie.Need-returns-4
 unfolding admitted
@@ -74,15 +56,15 @@ pub admit-spec : {M : Type 1} → statement M
 admit-spec =
     tie.close
     (tie.spec
-    u32-from-slice-requires
-    enum-told
-    enum-known-n
+    (λ c κs. search needs)
+    (λ c. search needs)
+    (λ c. search needs)
     returns
     returns-2
-    cast-if3
+    (λ c. search needs)
     returns-3
-    sub-if4
-    shared-slice-read-if4
+    (λ c. search needs)
+    (λ c. search needs)
     returns-4
     returns-5
     returns-6)

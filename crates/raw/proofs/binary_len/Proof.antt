@@ -8,20 +8,8 @@ use native.Mathlib.Omega.{arith}
 use Rattle.raw.proofs.binary_len.Statement.{statement}
 use Rattle.raw.proofs.binary_len.Tie as tie
 
-length-field-requires : tie.Need-length-field-requires
-length-field-requires c κs = search needs
-
-enum-known-number : tie.Need-enum-known-number
-enum-known-number c = search needs
-
-enum-known-n : tie.Need-enum-known-n
-enum-known-n c = search needs
-
 add-fixed-len : tie.Need-add-fixed-len
 add-fixed-len c = omega (arith, length-field-is _ _ _ _ (answered saidLength (c .before .before .before .length-field .ensures) (c .before .n .given .1)))
-
-fixed-len-requires : tie.Need-fixed-len-requires
-fixed-len-requires c κs = search needs
 
 returns : tie.Need-returns
 unfolding binarySize
@@ -34,11 +22,4 @@ returns-2 c = rw (answered saidLength (c .before .before .before .before .length
 pub binary-len-spec : {M : Type 1} → statement M
 binary-len-spec =
     tie.close
-    (tie.spec
-    length-field-requires
-    enum-known-number
-    enum-known-n
-    add-fixed-len
-    fixed-len-requires
-    returns
-    returns-2)
+    (tie.spec (λ c κs. search needs) (λ c. search needs) (λ c. search needs) add-fixed-len (λ c κs. search needs) returns returns-2)

@@ -8,15 +8,6 @@ use native.Mathlib.Omega.{arith}
 use Rattle.raw.proofs.document_len.Statement.{statement}
 use Rattle.raw.proofs.document_len.Tie as tie
 
-length-field-requires : tie.Need-length-field-requires
-length-field-requires c κs = search needs
-
-enum-known-number : tie.Need-enum-known-number
-enum-known-number c = search needs
-
-enum-known-n : tie.Need-enum-known-n
-enum-known-n c = search needs
-
 zero-ended-len-requires : tie.Need-zero-ended-len-requires
 zero-ended-len-requires c κs = omega (arith, length-field-is _ _ _ _ (answered saidLength (c .before .before .before .length-field .ensures) (c .before .n .given .1)))
 
@@ -30,11 +21,4 @@ returns-2 c = rw (answered saidLength (c .before .before .before .before .length
 
 pub document-len-spec : {M : Type 1} → statement M
 document-len-spec =
-    tie.close
-    (tie.spec
-    length-field-requires
-    enum-known-number
-    enum-known-n
-    zero-ended-len-requires
-    returns
-    returns-2)
+    tie.close (tie.spec (λ c κs. search needs) (λ c. search needs) (λ c. search needs) zero-ended-len-requires returns returns-2)

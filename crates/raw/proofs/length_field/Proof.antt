@@ -11,15 +11,6 @@ use native.Mathlib.Omega.{arith}
 use Rattle.raw.proofs.length_field.Statement.{statement}
 use Rattle.raw.proofs.length_field.Tie as tie
 
-u32-from-slice-requires : tie.Need-u32-from-slice-requires
-u32-from-slice-requires c κs = search needs
-
-enum-told : tie.Need-enum-told
-enum-told c = search needs
-
-enum-known-n : tie.Need-enum-known-n
-enum-known-n c = search needs
-
 returns : tie.Need-returns
 unfolding lengthField
 returns c = rw (lt-leb _ _ (c .if1 .taken))
@@ -30,9 +21,6 @@ returns-2 c =
     let d = c .before .before .before in
     let e = in-front-is 4 le32 _ _ (answered saidUint32 (d .before .before .u32-from-slice .ensures) (d .n .given .1)) in
     rw (le-leb _ _ (c .before .if1 .left), e .1, lt-leb _ _ (c .if2 .taken))
-
-cast-t10 : tie.Need-cast-t10
-cast-t10 c = search needs
 
 returns-3 : tie.Need-returns-3
 unfolding lengthField
@@ -59,12 +47,12 @@ pub length-field-spec : {M : Type 1} → statement M
 length-field-spec =
     tie.close
     (tie.spec
-    u32-from-slice-requires
-    enum-told
-    enum-known-n
+    (λ c κs. search needs)
+    (λ c. search needs)
+    (λ c. search needs)
     returns
     returns-2
-    cast-t10
+    (λ c. search needs)
     returns-3
     returns-4
     returns-5)

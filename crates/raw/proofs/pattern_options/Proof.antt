@@ -24,15 +24,6 @@ module _ (limit : Limit) (v : List ℕ) (p : ℕ) (pattern : cstringUnder limit 
   options (gives n) e = rw (pattern, ← ap (cstringUnder limit) (rest-part v (p + 1)), e)
   options (refuses n k) e = rw (pattern, ← ap (cstringUnder limit) (rest-part v (p + 1)), e)
 
-read-cstring-with-max-len-requires : tie.Need-read-cstring-with-max-len-requires
-read-cstring-with-max-len-requires c κs = search needs
-
-enum-known-number : tie.Need-enum-known-number
-enum-known-number c = search needs
-
-enum-known-pattern : tie.Need-enum-known-pattern
-enum-known-pattern c = search needs
-
 add-o : tie.Need-add-o
 add-o c =
     let q = answered saidLength (c .before .before .before .read-cstring-with-max-len .ensures) (c .before .pattern .given .1) in
@@ -47,18 +38,6 @@ part-read-cstring-with-max-len-start : tie.Need-part-read-cstring-with-max-len-s
 part-read-cstring-with-max-len-start c =
     let q = answered saidLength (c .before .before .before .read-cstring-with-max-len .ensures) (c .before .pattern .given .1) in
     omega (arith, cstring-inside _ _ _ q)
-
-part-read-cstring-with-max-len-end : tie.Need-part-read-cstring-with-max-len-end
-part-read-cstring-with-max-len-end c = search needs
-
-read-cstring-with-max-len-requires-2 : tie.Need-read-cstring-with-max-len-requires-2
-read-cstring-with-max-len-requires-2 c κs = search needs
-
-enum-known-number-2 : tie.Need-enum-known-number-2
-enum-known-number-2 c = search needs
-
-enum-known-options : tie.Need-enum-known-options
-enum-known-options c = search needs
 
 returns : tie.Need-returns
 unfolding patternOptionsUnder
@@ -80,16 +59,16 @@ pub pattern-options-spec : {M : Type 1} → statement M
 pattern-options-spec =
     tie.close
     (tie.spec
-    read-cstring-with-max-len-requires
-    enum-known-number
-    enum-known-pattern
+    (λ c κs. search needs)
+    (λ c. search needs)
+    (λ c. search needs)
     add-o
     sub-read-cstring-with-max-len
     part-read-cstring-with-max-len-start
-    part-read-cstring-with-max-len-end
-    read-cstring-with-max-len-requires-2
-    enum-known-number-2
-    enum-known-options
+    (λ c. search needs)
+    (λ c κs. search needs)
+    (λ c. search needs)
+    (λ c. search needs)
     returns
     returns-2
     returns-3)

@@ -8,20 +8,8 @@ use native.Mathlib.Omega.{arith}
 use Rattle.raw.proofs.pointer_len.Statement.{statement}
 use Rattle.raw.proofs.pointer_len.Tie as tie
 
-read-len-requires : tie.Need-read-len-requires
-read-len-requires c κs = search needs
-
-enum-known-number : tie.Need-enum-known-number
-enum-known-number c = search needs
-
-enum-known-n : tie.Need-enum-known-n
-enum-known-n c = search needs
-
 add-fixed-len : tie.Need-add-fixed-len
 add-fixed-len c = omega (arith, string-is _ _ (answered saidLength (c .before .before .before .read-len .ensures) (c .before .n .given .1)))
-
-fixed-len-requires : tie.Need-fixed-len-requires
-fixed-len-requires c κs = search needs
 
 returns : tie.Need-returns
 unfolding pointerSize
@@ -34,11 +22,4 @@ returns-2 c = rw (answered saidLength (c .before .before .before .before .read-l
 pub pointer-len-spec : {M : Type 1} → statement M
 pointer-len-spec =
     tie.close
-    (tie.spec
-    read-len-requires
-    enum-known-number
-    enum-known-n
-    add-fixed-len
-    fixed-len-requires
-    returns
-    returns-2)
+    (tie.spec (λ c κs. search needs) (λ c. search needs) (λ c. search needs) add-fixed-len (λ c κs. search needs) returns returns-2)

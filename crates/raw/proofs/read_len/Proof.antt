@@ -8,20 +8,8 @@ use native.Mathlib.Omega.{arith}
 use Rattle.raw.proofs.read_len.Statement.{statement}
 use Rattle.raw.proofs.read_len.Tie as tie
 
-length-field-requires : tie.Need-length-field-requires
-length-field-requires c κs = search needs
-
-enum-known-number : tie.Need-enum-known-number
-enum-known-number c = search needs
-
-enum-known-n : tie.Need-enum-known-n
-enum-known-n c = search needs
-
 add-zero-ended-len : tie.Need-add-zero-ended-len
 add-zero-ended-len c = omega (arith, length-field-is _ _ _ _ (answered saidLength (c .before .before .before .length-field .ensures) (c .before .n .given .1)))
-
-zero-ended-len-requires : tie.Need-zero-ended-len-requires
-zero-ended-len-requires c κs = search needs
 
 returns : tie.Need-returns
 unfolding stringSize
@@ -34,11 +22,4 @@ returns-2 c = rw (answered saidLength (c .before .before .before .before .length
 pub read-len-spec : {M : Type 1} → statement M
 read-len-spec =
     tie.close
-    (tie.spec
-    length-field-requires
-    enum-known-number
-    enum-known-n
-    add-zero-ended-len
-    zero-ended-len-requires
-    returns
-    returns-2)
+    (tie.spec (λ c κs. search needs) (λ c. search needs) (λ c. search needs) add-zero-ended-len (λ c κs. search needs) returns returns-2)

@@ -8,15 +8,6 @@ use native.Mathlib.Omega.{arith}
 use Rattle.raw.proofs.regex_len.Statement.{statement}
 use Rattle.raw.proofs.regex_len.Tie as tie
 
-pattern-options-requires : tie.Need-pattern-options-requires
-pattern-options-requires c κs = search needs
-
-enum-known-number : tie.Need-enum-known-number
-enum-known-number c = search needs
-
-enum-known-pattern : tie.Need-enum-known-pattern
-enum-known-pattern c = search needs
-
 add-t8 : tie.Need-add-t8
 add-t8 c =
     let f = pattern-options-fit _ _ (pattern-options-under _ _ _ (answered saidPatternOptions (c .before .before .before .pattern-options .ensures) (c .before .pattern .given .1))) in
@@ -41,14 +32,4 @@ unfolding regexSizeUnder
 returns-2 c = rw (answered saidPatternOptions (c .before .before .before .pattern-options .ensures) (c .before .pattern .given .1))
 
 pub regex-len-spec : {M : Type 1} → statement M
-regex-len-spec =
-    tie.close
-    (tie.spec
-    pattern-options-requires
-    enum-known-number
-    enum-known-pattern
-    add-t8
-    add-t9
-    add-t10
-    returns
-    returns-2)
+regex-len-spec = tie.close (tie.spec (λ c κs. search needs) (λ c. search needs) (λ c. search needs) add-t8 add-t9 add-t10 returns returns-2)

@@ -6,18 +6,6 @@ use borrow.Author.Needs.{needs}
 use Rattle.raw.proofs.scope_len.Statement.{statement}
 use Rattle.raw.proofs.scope_len.Tie as tie
 
-length-field-requires : tie.Need-length-field-requires
-length-field-requires c κs = search needs
-
-enum-known-number : tie.Need-enum-known-number
-enum-known-number c = search needs
-
-enum-known-n : tie.Need-enum-known-n
-enum-known-n c = search needs
-
-fixed-len-requires : tie.Need-fixed-len-requires
-fixed-len-requires c κs = search needs
-
 returns : tie.Need-returns
 unfolding scopeSize
 returns c = rw (answered saidLength (c .before .before .before .length-field .ensures) (c .before .number .given .1))
@@ -28,11 +16,4 @@ returns-2 c = rw (answered saidLength (c .before .before .before .before .length
 
 pub scope-len-spec : {M : Type 1} → statement M
 scope-len-spec =
-    tie.close
-    (tie.spec
-    length-field-requires
-    enum-known-number
-    enum-known-n
-    fixed-len-requires
-    returns
-    returns-2)
+    tie.close (tie.spec (λ c κs. search needs) (λ c. search needs) (λ c. search needs) (λ c κs. search needs) returns returns-2)

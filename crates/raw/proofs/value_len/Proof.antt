@@ -7,54 +7,6 @@ use borrow.Author.Needs.{needs}
 use Rattle.raw.proofs.value_len.Statement.{statement}
 use Rattle.raw.proofs.value_len.Tie as tie
 
-kind-of-requires : tie.Need-kind-of-requires
-kind-of-requires c κs = search needs
-
-enum-told : tie.Need-enum-told
-enum-told c = search needs
-
-enum-known-n : tie.Need-enum-known-n
-enum-known-n c = search needs
-
-fixed-len-requires : tie.Need-fixed-len-requires
-fixed-len-requires c κs = search needs
-
-enum-told-2 : tie.Need-enum-told-2
-enum-told-2 c = search needs
-
-read-len-requires : tie.Need-read-len-requires
-read-len-requires c κs = search needs
-
-enum-told-3 : tie.Need-enum-told-3
-enum-told-3 c = search needs
-
-pointer-len-requires : tie.Need-pointer-len-requires
-pointer-len-requires c κs = search needs
-
-enum-told-4 : tie.Need-enum-told-4
-enum-told-4 c = search needs
-
-document-len-requires : tie.Need-document-len-requires
-document-len-requires c κs = search needs
-
-enum-told-5 : tie.Need-enum-told-5
-enum-told-5 c = search needs
-
-binary-len-requires : tie.Need-binary-len-requires
-binary-len-requires c κs = search needs
-
-enum-told-6 : tie.Need-enum-told-6
-enum-told-6 c = search needs
-
-regex-len-requires : tie.Need-regex-len-requires
-regex-len-requires c κs = search needs
-
-enum-told-7 : tie.Need-enum-told-7
-enum-told-7 c = search needs
-
-scope-len-requires : tie.Need-scope-len-requires
-scope-len-requires c κs = search needs
-
 returns : tie.Need-returns
 unfolding valueSizeUnder
 returns c = rw (answered said (c .before .before .kind-of .ensures) (c .enum-told .given .1))
@@ -93,22 +45,22 @@ pub value-len-spec : {M : Type 1} → statement M
 value-len-spec =
     tie.close
     (tie.spec
-    kind-of-requires
-    enum-told
-    enum-known-n
-    fixed-len-requires
-    enum-told-2
-    read-len-requires
-    enum-told-3
-    pointer-len-requires
-    enum-told-4
-    document-len-requires
-    enum-told-5
-    binary-len-requires
-    enum-told-6
-    regex-len-requires
-    enum-told-7
-    scope-len-requires
+    (λ c κs. search needs)
+    (λ c. search needs)
+    (λ c. search needs)
+    (λ c κs. search needs)
+    (λ c. search needs)
+    (λ c κs. search needs)
+    (λ c. search needs)
+    (λ c κs. search needs)
+    (λ c. search needs)
+    (λ c κs. search needs)
+    (λ c. search needs)
+    (λ c κs. search needs)
+    (λ c. search needs)
+    (λ c κs. search needs)
+    (λ c. search needs)
+    (λ c κs. search needs)
     returns
     returns-2
     returns-3

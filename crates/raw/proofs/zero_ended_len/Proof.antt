@@ -9,15 +9,6 @@ use native.Mathlib.Omega.{arith}
 use Rattle.raw.proofs.zero_ended_len.Statement.{statement}
 use Rattle.raw.proofs.zero_ended_len.Tie as tie
 
-fixed-len-requires : tie.Need-fixed-len-requires
-fixed-len-requires c κs = search needs
-
-enum-known-number : tie.Need-enum-known-number
-enum-known-number c = search needs
-
-enum-known-n : tie.Need-enum-known-n
-enum-known-n c = search needs
-
 sub-if1 : tie.Need-sub-if1
 sub-if1 c = omega (arith, fits-is _ _ _ (answered saidLength (c .before .before .before .fixed-len .ensures) (c .before .n .given .1)))
 
@@ -45,12 +36,4 @@ returns-3 c =
 pub zero-ended-len-spec : {M : Type 1} → statement M
 zero-ended-len-spec =
     tie.close
-    (tie.spec
-    fixed-len-requires
-    enum-known-number
-    enum-known-n
-    sub-if1
-    shared-slice-read-if1
-    returns
-    returns-2
-    returns-3)
+    (tie.spec (λ c κs. search needs) (λ c. search needs) (λ c. search needs) sub-if1 shared-slice-read-if1 returns returns-2 returns-3)

@@ -3,11 +3,8 @@ use borrow.Author.Needs.{needs}
 use Rattle.reader.proofs.step_from.Statement.{statement}
 use Rattle.reader.proofs.step_from.Tie as tie
 
-next-requires : tie.Need-next-requires
-next-requires c κs = search needs
-
 returns : tie.Need-returns
 returns c = c .next .ensures
 
 pub step-from-spec : {M : Type 1} → statement M
-step-from-spec = tie.close (tie.spec next-requires returns)
+step-from-spec = tie.close (tie.spec (λ c κs. search needs) returns)

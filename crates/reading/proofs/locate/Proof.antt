@@ -5,9 +5,6 @@ use Rattle.iter.specs.Said as step
 use Rattle.reading.proofs.locate.Statement.{statement}
 use Rattle.reading.proofs.locate.Tie as tie
 
-next-under-requires : tie.Need-next-under-requires
-next-under-requires c κs = tt
-
 enum-known-number : tie.Need-enum-known-number
 enum-known-number c = c .match .keys1
 
@@ -30,13 +27,4 @@ unfolding elementAtUnder
 returns-3 c = rw (answered step.said (c .before .before .before .next-under .ensures .0) (c .before .element .given .1))
 
 pub locate-spec : {M : Type 1} → statement M
-locate-spec =
-    tie.close
-    (tie.spec
-    next-under-requires
-    enum-known-number
-    enum-told
-    enum-known-element
-    returns
-    returns-2
-    returns-3)
+locate-spec = tie.close (tie.spec (λ c κs. tt) enum-known-number enum-told enum-known-element returns returns-2 returns-3)

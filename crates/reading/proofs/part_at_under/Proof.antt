@@ -7,9 +7,6 @@ use Rattle.reading.specs.Said.{said}
 use Rattle.reading.proofs.part_at_under.Statement.{statement}
 use Rattle.reading.proofs.part_at_under.Tie as tie
 
-read-with-under-requires : tie.Need-read-with-under-requires
-read-with-under-requires c κs = tt
-
 enum-told : tie.Need-enum-told
 enum-told c = c .match .keys1
 
@@ -18,12 +15,6 @@ slice-aggregate-result c = refl
 
 enum-known-value : tie.Need-enum-known-value
 enum-known-value c = c .match .keys2
-
-part-of-requires : tie.Need-part-of-requires
-part-of-requires c κs = tt
-
-bytes-of-requires : tie.Need-bytes-of-requires
-bytes-of-requires c κs = tt
 
 returns : tie.Need-returns
 unfolding partAtUnder
@@ -37,13 +28,4 @@ returns-2 c =
 
 pub part-at-under-spec : {M : Type 1} → statement M
 part-at-under-spec =
-    tie.close
-    (tie.spec
-    read-with-under-requires
-    enum-told
-    slice-aggregate-result
-    enum-known-value
-    part-of-requires
-    bytes-of-requires
-    returns
-    returns-2)
+    tie.close (tie.spec (λ c κs. tt) enum-told slice-aggregate-result enum-known-value (λ c κs. tt) (λ c κs. tt) returns returns-2)

@@ -4,9 +4,6 @@ use Rattle.bson.specs.Bytes.{Part}
 use Rattle.reading.proofs.part_of.Statement.{statement}
 use Rattle.reading.proofs.part_of.Tie as tie
 
-parts-of-requires : tie.Need-parts-of-requires
-parts-of-requires c κs = tt
-
 enum-told : tie.Need-enum-told
 enum-told c = c .match .keys1
 
@@ -20,4 +17,4 @@ returns-2 : tie.Need-returns-2
 returns-2 c = rw (c .before .enum-told2 .given .1) (ap (λ (p : Part × Part). p .1) (c .before .before .before .parts-of .ensures))
 
 pub part-of-spec : {M : Type 1} → statement M
-part-of-spec = tie.close (tie.spec parts-of-requires enum-told enum-told-2 returns returns-2)
+part-of-spec = tie.close (tie.spec (λ c κs. tt) enum-told enum-told-2 returns returns-2)

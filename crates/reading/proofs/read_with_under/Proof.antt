@@ -5,17 +5,11 @@ use Rattle.reading.specs.Said.{saidLocated}
 use Rattle.reading.proofs.read_with_under.Statement.{statement}
 use Rattle.reading.proofs.read_with_under.Tie as tie
 
-locate-requires : tie.Need-locate-requires
-locate-requires c κs = tt
-
 enum-known-number : tie.Need-enum-known-number
 enum-known-number c = c .match .keys1
 
 enum-known-element : tie.Need-enum-known-element
 enum-known-element c = c .match .keys2
-
-value-with-requires : tie.Need-value-with-requires
-value-with-requires c κs = tt
 
 returns : tie.Need-returns
 unfolding readWithUnder
@@ -26,12 +20,4 @@ unfolding readWithUnder
 returns-2 c = rw (answered saidLocated (c .before .before .before .before .locate .ensures) (c .before .before .element .given .1)) (c .value-with .ensures)
 
 pub read-with-under-spec : {M : Type 1} → statement M
-read-with-under-spec =
-    tie.close
-    (tie.spec
-    locate-requires
-    enum-known-number
-    enum-known-element
-    value-with-requires
-    returns
-    returns-2)
+read-with-under-spec = tie.close (tie.spec (λ c κs. tt) enum-known-number enum-known-element (λ c κs. tt) returns returns-2)

@@ -5,9 +5,6 @@ use Rattle.reading.specs.Said.{said}
 use Rattle.reading.proofs.value_with.Statement.{statement}
 use Rattle.reading.proofs.value_with.Tie as tie
 
-value-of-requires : tie.Need-value-of-requires
-value-of-requires c κs = tt
-
 enum-known-number : tie.Need-enum-known-number
 enum-known-number c = c .match .keys1
 
@@ -28,6 +25,4 @@ returns-3 c =
     rw (answered said (b .before .before .value-of .ensures) (b .value .given .1), ne-eqb _ _ (c .if1 .left))
 
 pub value-with-spec : {M : Type 1} → statement M
-value-with-spec =
-    tie.close
-    (tie.spec value-of-requires enum-known-number enum-known-value returns returns-2 returns-3)
+value-with-spec = tie.close (tie.spec (λ c κs. tt) enum-known-number enum-known-value returns returns-2 returns-3)

@@ -6,48 +6,6 @@ use borrow.Author.Needs.{needs}
 use Rattle.report.proofs.put_element.Statement.{statement}
 use Rattle.report.proofs.put_element.Tie as tie
 
-width-of-requires : tie.Need-width-of-requires
-width-of-requires c κs = search needs
-
-width-of-requires-2 : tie.Need-width-of-requires-2
-width-of-requires-2 c κs = search needs
-
-add-line : tie.Need-add-line
-add-line c = search needs
-
-add-line-2 : tie.Need-add-line-2
-add-line-2 c = search needs
-
-fits-requires : tie.Need-fits-requires
-fits-requires c κs = search needs
-
-hex-digit-requires : tie.Need-hex-digit-requires
-hex-digit-requires c κs = search needs
-
-hex-digit-requires-2 : tie.Need-hex-digit-requires-2
-hex-digit-requires-2 c κs = search needs
-
-put-decimal-requires : tie.Need-put-decimal-requires
-put-decimal-requires c κs = search needs
-
-slice-aggregate-put-text : tie.Need-slice-aggregate-put-text
-slice-aggregate-put-text c = search needs
-
-put-text-requires : tie.Need-put-text-requires
-put-text-requires c κs = search needs
-
-put-decimal-requires-2 : tie.Need-put-decimal-requires-2
-put-decimal-requires-2 c κs = search needs
-
-slice-aggregate-put-text-2 : tie.Need-slice-aggregate-put-text-2
-slice-aggregate-put-text-2 c = search needs
-
-put-text-requires-2 : tie.Need-put-text-requires-2
-put-text-requires-2 c κs = search needs
-
-same-length : tie.Need-same-length
-same-length c = search needs
-
 returns : tie.Need-returns
 returns c =
     let n = c .before .before .before .before .before .before .before in
@@ -68,19 +26,19 @@ pub put-element-spec : {M : Type 1} → statement M
 put-element-spec =
     tie.close
     (tie.spec
-    width-of-requires
-    width-of-requires-2
-    add-line
-    add-line-2
-    fits-requires
-    hex-digit-requires
-    hex-digit-requires-2
-    put-decimal-requires
-    slice-aggregate-put-text
-    put-text-requires
-    put-decimal-requires-2
-    slice-aggregate-put-text-2
-    put-text-requires-2
-    same-length
+    (λ c κs. search needs)
+    (λ c κs. search needs)
+    (λ c. search needs)
+    (λ c. search needs)
+    (λ c κs. search needs)
+    (λ c κs. search needs)
+    (λ c κs. search needs)
+    (λ c κs. search needs)
+    (λ c. search needs)
+    (λ c κs. search needs)
+    (λ c κs. search needs)
+    (λ c. search needs)
+    (λ c κs. search needs)
+    (λ c. search needs)
     returns
     returns-2)

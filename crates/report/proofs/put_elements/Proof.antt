@@ -23,12 +23,6 @@ abbrev μ-loop : tie.MeasureT-loop
 loop-holds : tie.Need-loop-holds Inv-loop μ-loop
 loop-holds c = (refl, refl)
 
-next-requires : tie.Need-next-requires Inv-loop μ-loop
-next-requires c κs = search needs
-
-enum-told : tie.Need-enum-told Inv-loop μ-loop
-enum-told c = search needs
-
 same-length : tie.Need-same-length Inv-loop μ-loop
 same-length c = c .before .before .before .loop .inv .0
 
@@ -37,9 +31,6 @@ returns c =
     let l = c .before .before .before .loop in
     sym (lines-end _ _ _ (answered step.said (c .before .before .next .ensures .0) (c .enum-told .given .1))) ∙ l .inv .1
 
-enum-told-2 : tie.Need-enum-told-2 Inv-loop μ-loop
-enum-told-2 c = search needs
-
 same-length-2 : tie.Need-same-length-2 Inv-loop μ-loop
 same-length-2 c = c .before .before .before .loop .inv .0
 
@@ -47,12 +38,6 @@ returns-2 : tie.Need-returns-2 Inv-loop μ-loop
 returns-2 c =
     let l = c .before .before .before .loop in
     sym (lines-refused _ _ _ _ _ (answered step.said (c .before .before .next .ensures .0) (c .enum-told2 .given .1))) ∙ l .inv .1
-
-enum-known-element : tie.Need-enum-known-element Inv-loop μ-loop
-enum-known-element c = search needs
-
-put-element-requires : tie.Need-put-element-requires Inv-loop μ-loop
-put-element-requires c κs = search needs
 
 loop-less : tie.Need-loop-less Inv-loop μ-loop
 loop-less c =
@@ -78,14 +63,14 @@ put-elements-spec =
     Inv-loop
     μ-loop
     loop-holds
-    next-requires
-    enum-told
+    (λ c κs. search needs)
+    (λ c. search needs)
     same-length
     returns
-    enum-told-2
+    (λ c. search needs)
     same-length-2
     returns-2
-    enum-known-element
-    put-element-requires
+    (λ c. search needs)
+    (λ c κs. search needs)
     loop-less
     loop-again)

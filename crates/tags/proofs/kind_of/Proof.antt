@@ -11,17 +11,8 @@ use Rattle.tags.proofs.kind_of.Tie as tie
 not-fixed : (row : ℕ) → 32 ≤ row → row / 32 ≡ 0 → ⊥
 not-fixed row h e = omega arith
 
-row-requires : tie.Need-row-requires
-row-requires c κs = tt
-
 returns : tie.Need-returns
 returns c = no-row _ _ (c .before .before .fits .tag .fits) (c .before .row .ensures) (c .if1 .taken)
-
-array-read-row : tie.Need-array-read-row
-array-read-row c = search needs
-
-wide-requires : tie.Need-wide-requires
-wide-requires c κs = tt
 
 returns-2 : tie.Need-returns-2
 unfolding rows
@@ -66,15 +57,4 @@ returns-8 c =
 pub kind-of-spec : {M : Type 1} → statement M
 kind-of-spec =
     tie.close
-    (tie.spec
-    row-requires
-    returns
-    array-read-row
-    wide-requires
-    returns-2
-    returns-3
-    returns-4
-    returns-5
-    returns-6
-    returns-7
-    returns-8)
+    (tie.spec (λ c κs. tt) returns (λ c. search needs) (λ c κs. tt) returns-2 returns-3 returns-4 returns-5 returns-6 returns-7 returns-8)

@@ -9,12 +9,6 @@ returns : tie.Need-returns
 unfolding rowNumber
 returns c = rw (eq-eqb _ 0 (c .if1 .taken))
 
-wide-requires : tie.Need-wide-requires
-wide-requires c κs = search needs
-
-sub-result : tie.Need-sub-result
-sub-result c = search needs
-
 returns-2 : tie.Need-returns-2
 unfolding rowNumber
 returns-2 c = rw (ne-eqb _ 0 (c .before .before .if1 .left), lt-ltb _ 20 (c .before .if2 .taken), c .wide .ensures)
@@ -44,5 +38,4 @@ returns-5 c =
     )
 
 pub row-spec : {M : Type 1} → statement M
-row-spec =
-    tie.close (tie.spec returns wide-requires sub-result returns-2 returns-3 returns-4 returns-5)
+row-spec = tie.close (tie.spec returns (λ c κs. search needs) (λ c. search needs) returns-2 returns-3 returns-4 returns-5)

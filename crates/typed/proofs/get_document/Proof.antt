@@ -3,11 +3,8 @@ use borrow.Author.Needs.{needs}
 use Rattle.typed.proofs.get_document.Statement.{statement}
 use Rattle.typed.proofs.get_document.Tie as tie
 
-get-part-requires : tie.Need-get-part-requires
-get-part-requires c κs = search needs
-
 returns : tie.Need-returns
 returns c = c .get-part .ensures
 
 pub get-document-spec : {M : Type 1} → statement M
-get-document-spec = tie.close (tie.spec get-part-requires returns)
+get-document-spec = tie.close (tie.spec (λ c κs. search needs) returns)

@@ -3,11 +3,8 @@ use borrow.Author.Needs.{needs}
 use Rattle.typed.proofs.get_i64.Statement.{statement}
 use Rattle.typed.proofs.get_i64.Tie as tie
 
-int64-requires : tie.Need-int64-requires
-int64-requires c κs = search needs
-
 returns : tie.Need-returns
 returns c = c .int64 .ensures
 
 pub get-i64-spec : {M : Type 1} → statement M
-get-i64-spec = tie.close (tie.spec int64-requires returns)
+get-i64-spec = tie.close (tie.spec (λ c κs. search needs) returns)

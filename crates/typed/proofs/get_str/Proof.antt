@@ -3,11 +3,8 @@ use borrow.Author.Needs.{needs}
 use Rattle.typed.proofs.get_str.Statement.{statement}
 use Rattle.typed.proofs.get_str.Tie as tie
 
-get-part-requires : tie.Need-get-part-requires
-get-part-requires c κs = search needs
-
 returns : tie.Need-returns
 returns c = c .get-part .ensures
 
 pub get-str-spec : {M : Type 1} → statement M
-get-str-spec = tie.close (tie.spec get-part-requires returns)
+get-str-spec = tie.close (tie.spec (λ c κs. search needs) returns)

@@ -8,27 +8,6 @@ use borrow.Author.Needs.{needs}
 use Rattle.typed.proofs.get_timestamp.Statement.{statement}
 use Rattle.typed.proofs.get_timestamp.Tie as tie
 
-get-with-requires : tie.Need-get-with-requires
-get-with-requires c κs = search needs
-
-enum-known-number : tie.Need-enum-known-number
-enum-known-number c = search needs
-
-enum-known-element : tie.Need-enum-known-element
-enum-known-element c = search needs
-
-bytes-of-requires : tie.Need-bytes-of-requires
-bytes-of-requires c κs = search needs
-
-timestamp-from-slice-requires : tie.Need-timestamp-from-slice-requires
-timestamp-from-slice-requires c κs = search needs
-
-enum-known-increment : tie.Need-enum-known-increment
-enum-known-increment c = search needs
-
-enum-known-number-2 : tie.Need-enum-known-number-2
-enum-known-number-2 c = search needs
-
 returns : tie.Need-returns
 returns c = rw (answered found.said (c .before .before .before .get-with .ensures) (c .before .number .given .1))
 
@@ -50,13 +29,13 @@ pub get-timestamp-spec : {M : Type 1} → statement M
 get-timestamp-spec =
     tie.close
     (tie.spec
-    get-with-requires
-    enum-known-number
-    enum-known-element
-    bytes-of-requires
-    timestamp-from-slice-requires
-    enum-known-increment
-    enum-known-number-2
+    (λ c κs. search needs)
+    (λ c. search needs)
+    (λ c. search needs)
+    (λ c κs. search needs)
+    (λ c κs. search needs)
+    (λ c. search needs)
+    (λ c. search needs)
     returns
     returns-2
     returns-3)

@@ -11,27 +11,6 @@ use borrow.Author.Needs.{needs}
 use Rattle.typed.proofs.int64.Statement.{statement}
 use Rattle.typed.proofs.int64.Tie as tie
 
-get-with-requires : tie.Need-get-with-requires
-get-with-requires c κs = search needs
-
-enum-known-number : tie.Need-enum-known-number
-enum-known-number c = search needs
-
-enum-known-element : tie.Need-enum-known-element
-enum-known-element c = search needs
-
-bytes-of-requires : tie.Need-bytes-of-requires
-bytes-of-requires c κs = search needs
-
-i64-from-slice-requires : tie.Need-i64-from-slice-requires
-i64-from-slice-requires c κs = search needs
-
-enum-known-n : tie.Need-enum-known-n
-enum-known-n c = search needs
-
-enum-known-number-2 : tie.Need-enum-known-number-2
-enum-known-number-2 c = search needs
-
 returns : tie.Need-returns
 returns c = rw (answered found.said (c .before .before .before .get-with .ensures) (c .before .number .given .1))
 
@@ -55,13 +34,13 @@ pub int64-spec : {M : Type 1} → statement M
 int64-spec =
     tie.close
     (tie.spec
-    get-with-requires
-    enum-known-number
-    enum-known-element
-    bytes-of-requires
-    i64-from-slice-requires
-    enum-known-n
-    enum-known-number-2
+    (λ c κs. search needs)
+    (λ c. search needs)
+    (λ c. search needs)
+    (λ c κs. search needs)
+    (λ c κs. search needs)
+    (λ c. search needs)
+    (λ c. search needs)
     returns
     returns-2
     returns-3)

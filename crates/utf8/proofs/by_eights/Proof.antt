@@ -32,9 +32,6 @@ part-ascii-start c = omega arith
 part-ascii-end : tie.Need-part-ascii-end Inv-loop μ-loop
 part-ascii-end c = omega arith
 
-ascii-requires : tie.Need-ascii-requires Inv-loop μ-loop
-ascii-requires c κs = tt
-
 sub-mixed : tie.Need-sub-mixed Inv-loop μ-loop
 sub-mixed c = omega arith
 
@@ -43,9 +40,6 @@ part-mixed-start c = omega arith
 
 part-mixed-end : tie.Need-part-mixed-end Inv-loop μ-loop
 part-mixed-end c = omega arith
-
-mixed-requires : tie.Need-mixed-requires Inv-loop μ-loop
-mixed-requires c κs = tt
 
 returns : tie.Need-returns Inv-loop μ-loop
 returns c = at-rest (c .before .before .before .before .before .before .loop .inv) (c .mixed .ensures)
@@ -57,9 +51,6 @@ loop-again : tie.Need-loop-again Inv-loop μ-loop
 loop-again c =
     let e = sym (c .before .ascii .ensures) ∙ not-false _ (c .if1 .left) in
     at-block 8 8 (omega arith) (c .before .before .before .before .loop .inv) (omega arith) e
-
-ends-in-ascii-requires : tie.Need-ends-in-ascii-requires Inv-loop μ-loop
-ends-in-ascii-requires c κs = tt
 
 returns-2 : tie.Need-returns-2 Inv-loop μ-loop
 returns-2 c =
@@ -74,9 +65,6 @@ part-mixed-start-2 c = omega arith
 
 part-mixed-end-2 : tie.Need-part-mixed-end-2 Inv-loop μ-loop
 part-mixed-end-2 c = omega arith
-
-mixed-requires-2 : tie.Need-mixed-requires-2 Inv-loop μ-loop
-mixed-requires-2 c κs = tt
 
 returns-3 : tie.Need-returns-3 Inv-loop μ-loop
 returns-3 c = at-rest (c .before .before .before .before .before .loop .inv) (c .mixed2 .ensures)
@@ -93,18 +81,18 @@ by-eights-spec =
     sub-ascii
     part-ascii-start
     part-ascii-end
-    ascii-requires
+    (λ c κs. tt)
     sub-mixed
     part-mixed-start
     part-mixed-end
-    mixed-requires
+    (λ c κs. tt)
     returns
     loop-less
     loop-again
-    ends-in-ascii-requires
+    (λ c κs. tt)
     returns-2
     sub-mixed-2
     part-mixed-start-2
     part-mixed-end-2
-    mixed-requires-2
+    (λ c κs. tt)
     returns-3)

@@ -32,9 +32,6 @@ part-ascii-start c = omega arith
 part-ascii-end : tie.Need-part-ascii-end Inv-loop μ-loop
 part-ascii-end c = omega arith
 
-ascii-requires : tie.Need-ascii-requires Inv-loop μ-loop
-ascii-requires c κs = tt
-
 sub-mixed : tie.Need-sub-mixed Inv-loop μ-loop
 sub-mixed c = omega arith
 
@@ -43,9 +40,6 @@ part-mixed-start c = omega arith
 
 part-mixed-end : tie.Need-part-mixed-end Inv-loop μ-loop
 part-mixed-end c = omega arith
-
-mixed-requires : tie.Need-mixed-requires Inv-loop μ-loop
-mixed-requires c κs = tt
 
 returns : tie.Need-returns Inv-loop μ-loop
 returns c = at-rest (c .before .before .before .before .before .before .loop .inv .0) (c .mixed .ensures)
@@ -72,9 +66,6 @@ part-by-eights-start c = omega arith
 part-by-eights-end : tie.Need-part-by-eights-end Inv-loop μ-loop
 part-by-eights-end c = omega arith
 
-by-eights-requires : tie.Need-by-eights-requires Inv-loop μ-loop
-by-eights-requires c κs = tt
-
 returns-2 : tie.Need-returns-2 Inv-loop μ-loop
 returns-2 c = at-rest (c .before .before .before .loop .inv .1) (c .by-eights .ensures)
 
@@ -90,11 +81,11 @@ is-utf8-spec =
     sub-ascii
     part-ascii-start
     part-ascii-end
-    ascii-requires
+    (λ c κs. tt)
     sub-mixed
     part-mixed-start
     part-mixed-end
-    mixed-requires
+    (λ c κs. tt)
     returns
     sub-k
     loop-less
@@ -102,5 +93,5 @@ is-utf8-spec =
     sub-by-eights
     part-by-eights-start
     part-by-eights-end
-    by-eights-requires
+    (λ c κs. tt)
     returns-2)

@@ -5,21 +5,9 @@ use Rattle.bson.specs.Value.{binaryValue}
 use Rattle.value.proofs.binary.Statement.{statement}
 use Rattle.value.proofs.binary.Tie as tie
 
-byte-or-zero-requires : tie.Need-byte-or-zero-requires
-byte-or-zero-requires c κs = search needs
-
-trim-requires : tie.Need-trim-requires
-trim-requires c κs = search needs
-
 returns : tie.Need-returns
 unfolding binaryValue
 returns c = rw (c .trim .ensures, ← c .before .before .byte-or-zero .ensures, ne-eqb _ _ (c .before .if1 .taken))
-
-is-old-binary-requires : tie.Need-is-old-binary-requires
-is-old-binary-requires c κs = search needs
-
-trim-requires-2 : tie.Need-trim-requires-2
-trim-requires-2 c κs = search needs
 
 returns-2 : tie.Need-returns-2
 unfolding binaryValue
@@ -36,11 +24,4 @@ returns-3 c =
 pub binary-spec : {M : Type 1} → statement M
 binary-spec =
     tie.close
-    (tie.spec
-    byte-or-zero-requires
-    trim-requires
-    returns
-    is-old-binary-requires
-    trim-requires-2
-    returns-2
-    returns-3)
+    (tie.spec (λ c κs. search needs) (λ c κs. search needs) returns (λ c κs. search needs) (λ c κs. search needs) returns-2 returns-3)

@@ -5,15 +5,6 @@ use Rattle.num.specs.Said.{saidBoolean}
 use Rattle.value.proofs.boolean.Statement.{statement}
 use Rattle.value.proofs.boolean.Tie as tie
 
-bool-from-slice-requires : tie.Need-bool-from-slice-requires
-bool-from-slice-requires c κs = search needs
-
-enum-known-b : tie.Need-enum-known-b
-enum-known-b c = search needs
-
-enum-known-number : tie.Need-enum-known-number
-enum-known-number c = search needs
-
 returns : tie.Need-returns
 returns c = rw (answered saidBoolean (c .before .before .before .bool-from-slice .ensures) (c .before .b .given .1))
 
@@ -21,5 +12,4 @@ returns-2 : tie.Need-returns-2
 returns-2 c = rw (answered saidBoolean (c .before .before .before .bool-from-slice .ensures) (c .before .number .given .1))
 
 pub boolean-spec : {M : Type 1} → statement M
-boolean-spec =
-    tie.close (tie.spec bool-from-slice-requires enum-known-b enum-known-number returns returns-2)
+boolean-spec = tie.close (tie.spec (λ c κs. search needs) (λ c. search needs) (λ c. search needs) returns returns-2)

@@ -7,21 +7,9 @@ use Rattle.value.proofs.CodeLaws.{code-is, scope-value}
 use Rattle.value.proofs.code_with_scope.Statement.{statement}
 use Rattle.value.proofs.code_with_scope.Tie as tie
 
-code-len-requires : tie.Need-code-len-requires
-code-len-requires c κs = search needs
-
-enum-known-number : tie.Need-enum-known-number
-enum-known-number c = search needs
-
-enum-known-n : tie.Need-enum-known-n
-enum-known-n c = search needs
-
 sub-size : tie.Need-sub-size
 sub-size c =
     omega (arith, code-is _ _ (answered saidLength (c .before .before .before .code-len .ensures) (c .before .n .given .1)))
-
-add-trim : tie.Need-add-trim
-add-trim c = search needs
 
 add-trim-2 : tie.Need-add-trim-2
 add-trim-2 c =
@@ -47,11 +35,11 @@ pub code-with-scope-spec : {M : Type 1} → statement M
 code-with-scope-spec =
     tie.close
     (tie.spec
-    code-len-requires
-    enum-known-number
-    enum-known-n
+    (λ c κs. search needs)
+    (λ c. search needs)
+    (λ c. search needs)
     sub-size
-    add-trim
+    (λ c. search needs)
     add-trim-2
     trim-requires
     returns

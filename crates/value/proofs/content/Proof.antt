@@ -11,51 +11,15 @@ use Rattle.value.proofs.Unlisted.{unlisted}
 use Rattle.value.proofs.content.Statement.{statement}
 use Rattle.value.proofs.content.Tie as tie
 
-bytes-of-requires : tie.Need-bytes-of-requires
-bytes-of-requires c κs = search needs
-
-double-requires : tie.Need-double-requires
-double-requires c κs = search needs
-
-text-requires : tie.Need-text-requires
-text-requires c κs = search needs
-
-binary-requires : tie.Need-binary-requires
-binary-requires c κs = search needs
-
-boolean-requires : tie.Need-boolean-requires
-boolean-requires c κs = search needs
-
-int64-requires : tie.Need-int64-requires
-int64-requires c κs = search needs
-
 regular-expression-requires : tie.Need-regular-expression-requires
 regular-expression-requires c κs =
     let a = c .before .before .before .args in
     omega (arith, ap length (c .before .bytes-of .ensures), bytes-length (a .s .now) (saidPart (a .framed)) (omega arith))
 
-db-pointer-requires : tie.Need-db-pointer-requires
-db-pointer-requires c κs = search needs
-
-text-requires-2 : tie.Need-text-requires-2
-text-requires-2 c κs = search needs
-
-text-requires-3 : tie.Need-text-requires-3
-text-requires-3 c κs = search needs
-
 code-with-scope-requires : tie.Need-code-with-scope-requires
 code-with-scope-requires c κs =
     let a = c .before .before .before .args in
     omega (arith, ap length (c .before .bytes-of .ensures), bytes-length (a .s .now) (saidPart (a .framed)) (omega arith))
-
-int32-requires : tie.Need-int32-requires
-int32-requires c κs = search needs
-
-timestamp-requires : tie.Need-timestamp-requires
-timestamp-requires c κs = search needs
-
-int64-requires-2 : tie.Need-int64-requires-2
-int64-requires-2 c κs = search needs
 
 returns : tie.Need-returns
 unfolding paper.content rowOf tags
@@ -148,20 +112,20 @@ pub content-spec : {M : Type 1} → statement M
 content-spec =
     tie.close
     (tie.spec
-    bytes-of-requires
-    double-requires
-    text-requires
-    binary-requires
-    boolean-requires
-    int64-requires
+    (λ c κs. search needs)
+    (λ c κs. search needs)
+    (λ c κs. search needs)
+    (λ c κs. search needs)
+    (λ c κs. search needs)
+    (λ c κs. search needs)
     regular-expression-requires
-    db-pointer-requires
-    text-requires-2
-    text-requires-3
+    (λ c κs. search needs)
+    (λ c κs. search needs)
+    (λ c κs. search needs)
     code-with-scope-requires
-    int32-requires
-    timestamp-requires
-    int64-requires-2
+    (λ c κs. search needs)
+    (λ c κs. search needs)
+    (λ c κs. search needs)
     returns
     returns-2
     returns-3

@@ -9,18 +9,9 @@ use Rattle.bson.specs.Value as paper
 use Rattle.value.proofs.db_pointer.Statement.{statement}
 use Rattle.value.proofs.db_pointer.Tie as tie
 
-trim-requires : tie.Need-trim-requires
-trim-requires c κs = search needs
-
-is-text-requires : tie.Need-is-text-requires
-is-text-requires c κs = search needs
-
 returns : tie.Need-returns
 unfolding paper.content paper.text
 returns c = rw (← c .before .before .trim .ensures, sym (c .before .is-text .ensures) ∙ not-true _ (c .if1 .taken))
-
-sub-front : tie.Need-sub-front
-sub-front c = search needs
 
 trim-requires-2 : tie.Need-trim-requires-2
 trim-requires-2 c κs =
@@ -38,5 +29,4 @@ returns-2 c =
     rw (← d .before .trim .ensures, sym (d .is-text .ensures) ∙ not-false _ (b .before .before .if1 .left), c .trim2 .ensures, e)
 
 pub db-pointer-spec : {M : Type 1} → statement M
-db-pointer-spec =
-    tie.close (tie.spec trim-requires is-text-requires returns sub-front trim-requires-2 returns-2)
+db-pointer-spec = tie.close (tie.spec (λ c κs. search needs) (λ c κs. search needs) returns (λ c. search needs) trim-requires-2 returns-2)

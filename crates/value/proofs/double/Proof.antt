@@ -5,15 +5,6 @@ use Rattle.num.specs.Said.{saidDouble}
 use Rattle.value.proofs.double.Statement.{statement}
 use Rattle.value.proofs.double.Tie as tie
 
-f64-from-slice-requires : tie.Need-f64-from-slice-requires
-f64-from-slice-requires c κs = search needs
-
-enum-known-bits : tie.Need-enum-known-bits
-enum-known-bits c = search needs
-
-enum-known-number : tie.Need-enum-known-number
-enum-known-number c = search needs
-
 returns : tie.Need-returns
 returns c = rw (answered saidDouble (c .before .before .before .f64-from-slice .ensures) (c .before .bits .given .1))
 
@@ -21,6 +12,4 @@ returns-2 : tie.Need-returns-2
 returns-2 c = rw (answered saidDouble (c .before .before .before .f64-from-slice .ensures) (c .before .number .given .1))
 
 pub double-spec : {M : Type 1} → statement M
-double-spec =
-    tie.close
-    (tie.spec f64-from-slice-requires enum-known-bits enum-known-number returns returns-2)
+double-spec = tie.close (tie.spec (λ c κs. search needs) (λ c. search needs) (λ c. search needs) returns returns-2)

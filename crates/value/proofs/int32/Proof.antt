@@ -7,15 +7,6 @@ use Rattle.num.specs.Said.{saidInt32}
 use Rattle.value.proofs.int32.Statement.{statement}
 use Rattle.value.proofs.int32.Tie as tie
 
-i32-from-slice-requires : tie.Need-i32-from-slice-requires
-i32-from-slice-requires c κs = search needs
-
-enum-known-n : tie.Need-enum-known-n
-enum-known-n c = search needs
-
-enum-known-number : tie.Need-enum-known-number
-enum-known-number c = search needs
-
 returns : tie.Need-returns
 returns c =
     let same = toZ-ofZ w32 (c .before .n .given .0 .0) (record { sfits = c .known-told .given .0 .1 }) in
@@ -25,5 +16,4 @@ returns-2 : tie.Need-returns-2
 returns-2 c = rw (answered saidInt32 (c .before .before .before .i32-from-slice .ensures) (c .before .number .given .1))
 
 pub int32-spec : {M : Type 1} → statement M
-int32-spec =
-    tie.close (tie.spec i32-from-slice-requires enum-known-n enum-known-number returns returns-2)
+int32-spec = tie.close (tie.spec (λ c κs. search needs) (λ c. search needs) (λ c. search needs) returns returns-2)

@@ -8,15 +8,6 @@ use Rattle.num.specs.Said.{saidInt64}
 use Rattle.value.proofs.int64.Statement.{statement}
 use Rattle.value.proofs.int64.Tie as tie
 
-i64-from-slice-requires : tie.Need-i64-from-slice-requires
-i64-from-slice-requires c κs = search needs
-
-enum-known-number : tie.Need-enum-known-number
-enum-known-number c = search needs
-
-enum-known-n : tie.Need-enum-known-n
-enum-known-n c = search needs
-
 returns : tie.Need-returns
 returns c = rw (answered saidInt64 (c .before .before .before .i64-from-slice .ensures) (c .before .number .given .1))
 
@@ -33,6 +24,4 @@ returns-3 c =
     rw (same, answered saidInt64 (d .before .before .i64-from-slice .ensures) (d .n .given .1), ne-eqb _ _ (c .if1 .left))
 
 pub int64-spec : {M : Type 1} → statement M
-int64-spec =
-    tie.close
-    (tie.spec i64-from-slice-requires enum-known-number enum-known-n returns returns-2 returns-3)
+int64-spec = tie.close (tie.spec (λ c κs. search needs) (λ c. search needs) (λ c. search needs) returns returns-2 returns-3)

@@ -14,9 +14,6 @@ returns c =
     let a = c .before .before .before .args in
     rw (lt-leb (a .framed .offset + a .framed .size) (length (a .s .now)) (omega arith))
 
-sub-if2 : tie.Need-sub-if2
-sub-if2 c = search needs
-
 returns-2 : tie.Need-returns-2
 unfolding valueIn
 returns-2 c =
@@ -33,4 +30,4 @@ returns-3 c =
     rw (le-leb (a .framed .offset + a .framed .size) (length (a .s .now)) (omega arith)) (c .content .ensures)
 
 pub parse-spec : {M : Type 1} → statement M
-parse-spec = tie.close (tie.spec returns sub-if2 returns-2 content-requires returns-3)
+parse-spec = tie.close (tie.spec returns (λ c. search needs) returns-2 content-requires returns-3)

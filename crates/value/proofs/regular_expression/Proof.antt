@@ -8,15 +8,6 @@ use Rattle.raw.specs.Said.{saidPatternOptions}
 use Rattle.value.proofs.regular_expression.Statement.{statement}
 use Rattle.value.proofs.regular_expression.Tie as tie
 
-pattern-options-requires : tie.Need-pattern-options-requires
-pattern-options-requires c κs = search needs
-
-enum-known-number : tie.Need-enum-known-number
-enum-known-number c = search needs
-
-enum-known-pattern : tie.Need-enum-known-pattern
-enum-known-pattern c = search needs
-
 add-behind : tie.Need-add-behind
 add-behind c =
     let q = answered saidPatternOptions (c .before .before .before .pattern-options .ensures) (c .before .pattern .given .1) in
@@ -36,12 +27,4 @@ returns-2 c =
 
 pub regular-expression-spec : {M : Type 1} → statement M
 regular-expression-spec =
-    tie.close
-    (tie.spec
-    pattern-options-requires
-    enum-known-number
-    enum-known-pattern
-    add-behind
-    add-behind-2
-    returns
-    returns-2)
+    tie.close (tie.spec (λ c κs. search needs) (λ c. search needs) (λ c. search needs) add-behind add-behind-2 returns returns-2)

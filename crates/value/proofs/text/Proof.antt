@@ -6,12 +6,6 @@ use Rattle.bson.specs.Value as paper
 use Rattle.value.proofs.text.Statement.{statement}
 use Rattle.value.proofs.text.Tie as tie
 
-trim-requires : tie.Need-trim-requires
-trim-requires c κs = search needs
-
-is-text-requires : tie.Need-is-text-requires
-is-text-requires c κs = search needs
-
 returns : tie.Need-returns
 unfolding paper.text
 returns c = rw (← c .before .before .trim .ensures, sym (c .before .is-text .ensures) ∙ not-true _ (c .if1 .taken))
@@ -45,5 +39,4 @@ returns-4 c =
     )
 
 pub text-spec : {M : Type 1} → statement M
-text-spec =
-    tie.close (tie.spec trim-requires is-text-requires returns returns-2 returns-3 returns-4)
+text-spec = tie.close (tie.spec (λ c κs. search needs) (λ c κs. search needs) returns returns-2 returns-3 returns-4)

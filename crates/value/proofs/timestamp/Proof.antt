@@ -5,15 +5,6 @@ use Rattle.num.specs.Said.{saidTimestamp}
 use Rattle.value.proofs.timestamp.Statement.{statement}
 use Rattle.value.proofs.timestamp.Tie as tie
 
-timestamp-from-slice-requires : tie.Need-timestamp-from-slice-requires
-timestamp-from-slice-requires c κs = search needs
-
-enum-known-increment : tie.Need-enum-known-increment
-enum-known-increment c = search needs
-
-enum-known-number : tie.Need-enum-known-number
-enum-known-number c = search needs
-
 returns : tie.Need-returns
 returns c = rw (answered saidTimestamp (c .before .before .before .timestamp-from-slice .ensures) (c .before .increment .given .1))
 
@@ -21,11 +12,4 @@ returns-2 : tie.Need-returns-2
 returns-2 c = rw (answered saidTimestamp (c .before .before .before .timestamp-from-slice .ensures) (c .before .number .given .1))
 
 pub timestamp-spec : {M : Type 1} → statement M
-timestamp-spec =
-    tie.close
-    (tie.spec
-    timestamp-from-slice-requires
-    enum-known-increment
-    enum-known-number
-    returns
-    returns-2)
+timestamp-spec = tie.close (tie.spec (λ c κs. search needs) (λ c. search needs) (λ c. search needs) returns returns-2)

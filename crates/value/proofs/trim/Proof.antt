@@ -6,18 +6,6 @@ use borrow.Author.Needs.{needs}
 use Rattle.value.proofs.trim.Statement.{statement}
 use Rattle.value.proofs.trim.Tie as tie
 
-add-offset : tie.Need-add-offset
-add-offset c = search needs
-
-add-less : tie.Need-add-less
-add-less c = search needs
-
-sub-size : tie.Need-sub-size
-sub-size c = search needs
-
-returns : tie.Need-returns
-returns c = search needs
-
 returns-2 : tie.Need-returns-2
 returns-2 c =
     let a = c .before .before .before .args in
@@ -25,4 +13,4 @@ returns-2 c =
     rw e
 
 pub trim-spec : {M : Type 1} → statement M
-trim-spec = tie.close (tie.spec add-offset add-less sub-size returns returns-2)
+trim-spec = tie.close (tie.spec (λ c. search needs) (λ c. search needs) (λ c. search needs) (λ c. search needs) returns-2)

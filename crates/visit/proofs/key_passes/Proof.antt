@@ -5,12 +5,6 @@ use borrow.Author.Needs.{needs}
 use Rattle.visit.proofs.key_passes.Statement.{statement}
 use Rattle.visit.proofs.key_passes.Tie as tie
 
-bytes-of-requires : tie.Need-bytes-of-requires
-bytes-of-requires c κs = search needs
-
-is-good-requires : tie.Need-is-good-requires
-is-good-requires c κs = search needs
-
 returns : tie.Need-returns
 returns c position = rw (c .before .before .if1 .taken) (c .is-good .ensures position ∙ ap (goodArrayKey position) (c .before .bytes-of .ensures))
 
@@ -18,4 +12,4 @@ returns-2 : tie.Need-returns-2
 returns-2 c position = rw (c .if1 .left)
 
 pub key-passes-spec : {M : Type 1} → statement M
-key-passes-spec = tie.close (tie.spec bytes-of-requires is-good-requires returns returns-2)
+key-passes-spec = tie.close (tie.spec (λ c κs. search needs) (λ c κs. search needs) returns returns-2)

@@ -42,15 +42,6 @@ others-closed (Decimal128 p) k = refl
 others-closed MinKey k = refl
 others-closed MaxKey k = refl
 
-enum-known-value : tie.Need-enum-known-value
-enum-known-value c = search needs
-
-enum-known-value-2 : tie.Need-enum-known-value-2
-enum-known-value-2 c = search needs
-
-enum-known-value-3 : tie.Need-enum-known-value-3
-enum-known-value-3 c = search needs
-
 returns : tie.Need-returns
 unfolding opening
 returns c = rw (c .before .value .given .1)
@@ -67,13 +58,4 @@ returns-4 : tie.Need-returns-4
 returns-4 c = others-closed (c .before .args .value) (c .match .keys4)
 
 pub opening-of-spec : {M : Type 1} → statement M
-opening-of-spec =
-    tie.close
-    (tie.spec
-    enum-known-value
-    enum-known-value-2
-    enum-known-value-3
-    returns
-    returns-2
-    returns-3
-    returns-4)
+opening-of-spec = tie.close (tie.spec (λ c. search needs) (λ c. search needs) (λ c. search needs) returns returns-2 returns-3 returns-4)

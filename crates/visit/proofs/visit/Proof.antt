@@ -13,21 +13,6 @@ use borrow.Author.Needs.{needs}
 use Rattle.visit.proofs.visit.Statement.{statement}
 use Rattle.visit.proofs.visit.Tie as tie
 
-key-passes-requires : tie.Need-key-passes-requires
-key-passes-requires c κs = search needs
-
-parse-requires : tie.Need-parse-requires
-parse-requires c κs = search needs
-
-enum-known-number : tie.Need-enum-known-number
-enum-known-number c = search needs
-
-enum-known-value : tie.Need-enum-known-value
-enum-known-value c = search needs
-
-opening-of-requires : tie.Need-opening-of-requires
-opening-of-requires c κs = search needs
-
 returns : tie.Need-returns
 unfolding valueOf saidVisited
 returns c position =
@@ -63,11 +48,11 @@ pub visit-spec : {M : Type 1} → statement M
 visit-spec =
     tie.close
     (tie.spec
-    key-passes-requires
-    parse-requires
-    enum-known-number
-    enum-known-value
-    opening-of-requires
+    (λ c κs. search needs)
+    (λ c κs. search needs)
+    (λ c. search needs)
+    (λ c. search needs)
+    (λ c κs. search needs)
     returns
     returns-2
     returns-3

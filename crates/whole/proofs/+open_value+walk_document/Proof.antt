@@ -75,20 +75,8 @@ walk-calls t = (next-under-reads.Asked, next-under-reads.Learnt, open-below t, o
 open-value-visit-framed-requires : (t : ℕ) → open-value-lts.Need-visit-framed-requires (open-calls t) (open-at t) open-value.Post
 open-value-visit-framed-requires t c κs = c .before .pre .1 .1
 
-open-value-enum-known-number : (t : ℕ) → open-value-lts.Need-enum-known-number (open-calls t) (open-at t) open-value.Post
-open-value-enum-known-number t c = search needs
-
 open-value-add-place : (t : ℕ) → open-value-lts.Need-add-place (open-calls t) (open-at t) open-value.Post
 open-value-add-place t c = let y = c .before .before .before .before .before .before .before .pre .1 .1 in omega arith
-
-open-value-enum-known-opening : (t : ℕ) → open-value-lts.Need-enum-known-opening (open-calls t) (open-at t) open-value.Post
-open-value-enum-known-opening t c = search needs
-
-open-value-enum-told : (t : ℕ) → open-value-lts.Need-enum-told (open-calls t) (open-at t) open-value.Post
-open-value-enum-told t c = search needs
-
-open-value-enum-known-opening-2 : (t : ℕ) → open-value-lts.Need-enum-known-opening-2 (open-calls t) (open-at t) open-value.Post
-open-value-enum-known-opening-2 t c = search needs
 
 -- what the visit has told of a value that opens, and where what is inside lies
 open-value-visits : (t : ℕ) (c : open-value-lts.After-opening2 (open-calls t) (open-at t) open-value.Post) (position : ℕ)
@@ -114,23 +102,11 @@ open-value-add-depth t c = let r = open-value-enters t (c .before .before .befor
 open-value-add-end : (t : ℕ) → open-value-lts.Need-add-end (open-calls t) (open-at t) open-value.Post
 open-value-add-end t c = let r = open-value-enters t (c .before .before .before .before .before) in omega arith
 
-open-value-sub-walk-document : (t : ℕ) → open-value-lts.Need-sub-walk-document (open-calls t) (open-at t) open-value.Post
-open-value-sub-walk-document t c = search needs
-
-open-value-part-walk-document-start : (t : ℕ) → open-value-lts.Need-part-walk-document-start (open-calls t) (open-at t) open-value.Post
-open-value-part-walk-document-start t c = search needs
-
 open-value-part-walk-document-end : (t : ℕ) → open-value-lts.Need-part-walk-document-end (open-calls t) (open-at t) open-value.Post
 open-value-part-walk-document-end t c = let r = open-value-enters t (c .before .before .before .before .before) in omega arith
 
 open-value-walk-document-requires : (t : ℕ) → open-value-lts.Need-walk-document-requires (open-calls t) (open-at t) open-value.Post
 open-value-walk-document-requires t c κs = let r = open-value-enters t (c .before .before .before .before .before .before) in (omega arith, omega arith)
-
-open-value-enum-known-number-2 : (t : ℕ) → open-value-lts.Need-enum-known-number-2 (open-calls t) (open-at t) open-value.Post
-open-value-enum-known-number-2 t c = search needs
-
-open-value-enum-known-values : (t : ℕ) → open-value-lts.Need-enum-known-values (open-calls t) (open-at t) open-value.Post
-open-value-enum-known-values t c = search needs
 
 open-value-add-all : (t : ℕ) → open-value-lts.Need-add-all (open-calls t) (open-at t) open-value.Post
 open-value-add-all t c =
@@ -175,32 +151,14 @@ Inv-loop s strict level limit whole offset₀ count₀ offset count =
 abbrev μ-loop : walk-document-lts.MeasureT-loop
 μ-loop s strict level limit whole offset₀ count₀ offset count = length s + 4 - offset
 
-walk-document-sub-whole : (t : ℕ) → walk-document-lts.Need-sub-whole (walk-calls t) (walk-at t) walk-document.Post Inv-loop μ-loop
-walk-document-sub-whole t c = search needs
-
-walk-document-part-whole-start : (t : ℕ) → walk-document-lts.Need-part-whole-start (walk-calls t) (walk-at t) walk-document.Post Inv-loop μ-loop
-walk-document-part-whole-start t c = search needs
-
-walk-document-part-whole-end : (t : ℕ) → walk-document-lts.Need-part-whole-end (walk-calls t) (walk-at t) walk-document.Post Inv-loop μ-loop
-walk-document-part-whole-end t c = search needs
-
 walk-document-loop-holds : (t : ℕ) → walk-document-lts.Need-loop-holds (walk-calls t) (walk-at t) walk-document.Post Inv-loop μ-loop
 walk-document-loop-holds t c = (rest-part _ 0, 0, omega arith, omega arith, left-first _ _ _ _)
-
-walk-document-next-under-requires : (t : ℕ) → walk-document-lts.Need-next-under-requires (walk-calls t) (walk-at t) walk-document.Post Inv-loop μ-loop
-walk-document-next-under-requires t c κs = search needs
-
-walk-document-enum-told : (t : ℕ) → walk-document-lts.Need-enum-told (walk-calls t) (walk-at t) walk-document.Post Inv-loop μ-loop
-walk-document-enum-told t c = search needs
 
 walk-document-returns : (t : ℕ) → walk-document-lts.Need-returns (walk-calls t) (walk-at t) walk-document.Post Inv-loop μ-loop
 walk-document-returns t c =
     let i = c .before .before .before .loop .inv in
     let x = answered step.said (c .before .before .next-under .ensures .0) (c .enum-told .given .1) in
     left-ends _ _ _ _ _ _ _ (i .4) (rw (i .0) at x)
-
-walk-document-enum-known-number : (t : ℕ) → walk-document-lts.Need-enum-known-number (walk-calls t) (walk-at t) walk-document.Post Inv-loop μ-loop
-walk-document-enum-known-number t c = search needs
 
 walk-document-add-outer : (t : ℕ) → walk-document-lts.Need-add-outer (walk-calls t) (walk-at t) walk-document.Post Inv-loop μ-loop
 walk-document-add-outer t c =
@@ -214,9 +172,6 @@ walk-document-returns-2 t c =
     let x = answered step.said (c .before .before .before .before .next-under .ensures .0) (c .before .before .number .given .1) in
     left-refused _ _ _ _ _ _ _ (i .4) _ _ (rw (i .0) at x)
 
-walk-document-enum-known-element : (t : ℕ) → walk-document-lts.Need-enum-known-element (walk-calls t) (walk-at t) walk-document.Post Inv-loop μ-loop
-walk-document-enum-known-element t c = search needs
-
 walk-document-open-value-requires : (t : ℕ) → walk-document-lts.Need-open-value-requires (walk-calls t) (walk-at t) walk-document.Post Inv-loop μ-loop
 walk-document-open-value-requires t c κs =
     let i = c .before .before .before .before .loop .inv in
@@ -225,9 +180,6 @@ walk-document-open-value-requires t c κs =
     let l = ap length (i .0) in
     (omega arith, (omega arith, y))
 
-walk-document-enum-known-number-2 : (t : ℕ) → walk-document-lts.Need-enum-known-number-2 (walk-calls t) (walk-at t) walk-document.Post Inv-loop μ-loop
-walk-document-enum-known-number-2 t c = search needs
-
 walk-document-returns-3 : (t : ℕ) → walk-document-lts.Need-returns-3 (walk-calls t) (walk-at t) walk-document.Post Inv-loop μ-loop
 walk-document-returns-3 t c =
     let i = c .before .before .before .before .before .before .before .before .loop .inv in
@@ -235,9 +187,6 @@ walk-document-returns-3 t c =
     let x = answered step.said (b .before .before .next-under .ensures .0) (b .element .given .1) in
     let o = answered said (c .before .before .before .open-value .ensures (i .1)) (c .before .number2 .given .1) in
     left-value-refused _ _ _ _ _ _ _ (i .4) _ (rw (i .0) at x) _ _ (sym (rw (i .0) at o))
-
-walk-document-enum-known-values : (t : ℕ) → walk-document-lts.Need-enum-known-values (walk-calls t) (walk-at t) walk-document.Post Inv-loop μ-loop
-walk-document-enum-known-values t c = search needs
 
 walk-document-add-count : (t : ℕ) → walk-document-lts.Need-add-count (walk-calls t) (walk-at t) walk-document.Post Inv-loop μ-loop
 walk-document-add-count t c =
@@ -277,20 +226,20 @@ pub +open-value+walk-document-spec : {M : Type 1} → statement M
     (open-at t)
     open-value.Post
     (open-value-visit-framed-requires t)
-    (open-value-enum-known-number t)
+    (λ c. search needs)
     (open-value-add-place t)
-    (open-value-enum-known-opening t)
-    (open-value-enum-told t)
-    (open-value-enum-known-opening-2 t)
+    (λ c. search needs)
+    (λ c. search needs)
+    (λ c. search needs)
     (open-value-add-base t)
     (open-value-add-depth t)
     (open-value-add-end t)
-    (open-value-sub-walk-document t)
-    (open-value-part-walk-document-start t)
+    (λ c. search needs)
+    (λ c. search needs)
     (open-value-part-walk-document-end t)
     (open-value-walk-document-requires t)
-    (open-value-enum-known-number-2 t)
-    (open-value-enum-known-values t)
+    (λ c. search needs)
+    (λ c. search needs)
     (open-value-add-all t)
     (open-value-returns t)
     (open-value-returns-2 t)
@@ -302,21 +251,21 @@ pub +open-value+walk-document-spec : {M : Type 1} → statement M
     walk-document.Post
     Inv-loop
     μ-loop
-    (walk-document-sub-whole t)
-    (walk-document-part-whole-start t)
-    (walk-document-part-whole-end t)
+    (λ c. search needs)
+    (λ c. search needs)
+    (λ c. search needs)
     (walk-document-loop-holds t)
-    (walk-document-next-under-requires t)
-    (walk-document-enum-told t)
+    (λ c κs. search needs)
+    (λ c. search needs)
     (walk-document-returns t)
-    (walk-document-enum-known-number t)
+    (λ c. search needs)
     (walk-document-add-outer t)
     (walk-document-returns-2 t)
-    (walk-document-enum-known-element t)
+    (λ c. search needs)
     (walk-document-open-value-requires t)
-    (walk-document-enum-known-number-2 t)
+    (λ c. search needs)
     (walk-document-returns-3 t)
-    (walk-document-enum-known-values t)
+    (λ c. search needs)
     (walk-document-add-count t)
     (walk-document-loop-less t)
     (walk-document-loop-again t)

@@ -4,12 +4,9 @@ use borrow.Author.Needs.{needs}
 use Rattle.whole.proofs.check_either.Statement.{statement}
 use Rattle.whole.proofs.check_either.Tie as tie
 
-walk-document-requires : tie.Need-walk-document-requires
-walk-document-requires c κs = search needs
-
 returns : tie.Need-returns
 unfolding checkUnder
 returns c = c .walk-document .ensures
 
 pub check-either-spec : {M : Type 1} → statement M
-check-either-spec = tie.close (tie.spec walk-document-requires returns)
+check-either-spec = tie.close (tie.spec (λ c κs. search needs) returns)

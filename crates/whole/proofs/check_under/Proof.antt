@@ -3,11 +3,8 @@ use borrow.Author.Needs.{needs}
 use Rattle.whole.proofs.check_under.Statement.{statement}
 use Rattle.whole.proofs.check_under.Tie as tie
 
-check-either-requires : tie.Need-check-either-requires
-check-either-requires c κs = search needs
-
 returns : tie.Need-returns
 returns c = c .check-either .ensures
 
 pub check-under-spec : {M : Type 1} → statement M
-check-under-spec = tie.close (tie.spec check-either-requires returns)
+check-under-spec = tie.close (tie.spec (λ c κs. search needs) returns)

@@ -16,9 +16,6 @@ returns-3 c = (c .before .before .before .if1 .left, c .before .if2 .left, c .if
 returns-4 : tie.Need-returns-4
 returns-4 c = (c .before .before .before .before .if1 .left, c .before .before .if2 .left, c .if4 .taken)
 
-kind-of-requires : tie.Need-kind-of-requires
-kind-of-requires c κs = tt
-
 enum-known-n : tie.Need-enum-known-n
 enum-known-n c = c .match .keys1
 
@@ -35,15 +32,4 @@ returns-7 : tie.Need-returns-7
 returns-7 c = record {}
 
 pub tell-spec : {M : Type 1} → statement M
-tell-spec =
-    tie.close
-    (tie.spec
-    returns
-    returns-2
-    returns-3
-    returns-4
-    kind-of-requires
-    enum-known-n
-    returns-5
-    returns-6
-    returns-7)
+tell-spec = tie.close (tie.spec returns returns-2 returns-3 returns-4 (λ c κs. tt) enum-known-n returns-5 returns-6 returns-7)

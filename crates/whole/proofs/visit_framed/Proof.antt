@@ -4,9 +4,6 @@ use Rattle.whole.proofs.FramedLaws.{visits-closed, visits-document}
 use Rattle.whole.proofs.visit_framed.Statement.{statement}
 use Rattle.whole.proofs.visit_framed.Tie as tie
 
-tell-requires : tie.Need-tell-requires
-tell-requires c κs = tt
-
 enum-told : tie.Need-enum-told
 enum-told c = c .match .keys1
 
@@ -15,9 +12,6 @@ enum-known-array c = c .match .keys2
 
 enum-told-2 : tie.Need-enum-told-2
 enum-told-2 c = c .match .keys3
-
-visit-requires : tie.Need-visit-requires
-visit-requires c κs = tt
 
 returns : tie.Need-returns
 unfolding saidVisited
@@ -37,14 +31,4 @@ returns-3 : tie.Need-returns-3
 returns-3 c position = c .visit .ensures position
 
 pub visit-framed-spec : {M : Type 1} → statement M
-visit-framed-spec =
-    tie.close
-    (tie.spec
-    tell-requires
-    enum-told
-    enum-known-array
-    enum-told-2
-    visit-requires
-    returns
-    returns-2
-    returns-3)
+visit-framed-spec = tie.close (tie.spec (λ c κs. tt) enum-told enum-known-array enum-told-2 (λ c κs. tt) returns returns-2 returns-3)

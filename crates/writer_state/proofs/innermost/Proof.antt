@@ -6,12 +6,6 @@ use Rattle.writer_state.proofs.Tests.{innermost-told, nothing-open, imp
 use Rattle.writer_state.proofs.innermost.Statement.{statement}
 use Rattle.writer_state.proofs.innermost.Tie as tie
 
-possible-requires : tie.Need-possible-requires
-possible-requires c κs = tt
-
-depth-requires : tie.Need-depth-requires
-depth-requires c κs = tt
-
 sub-kind-of : tie.Need-sub-kind-of
 sub-kind-of c = omega arith
 
@@ -29,9 +23,6 @@ element-copy-out-kind-of c =
     let p = c .before .before .before .possible .ensures in
     let h = possible-says _ _ (sym p ∙ c .before .before .if1 .taken) .0 in
     omega (arith, c .before .depth .ensures .0)
-
-kind-of-requires : tie.Need-kind-of-requires
-kind-of-requires c κs = tt
 
 returns : tie.Need-returns
 returns c =
@@ -51,14 +42,14 @@ pub innermost-spec : {M : Type 1} → statement M
 innermost-spec =
     tie.close
     (tie.spec
-    possible-requires
-    depth-requires
+    (λ c κs. tt)
+    (λ c κs. tt)
     sub-kind-of
     mul-kind-of
     add-kind-of
     mul-kind-of-2
     element-copy-out-kind-of
-    kind-of-requires
+    (λ c κs. tt)
     returns
     returns-2
     returns-3)

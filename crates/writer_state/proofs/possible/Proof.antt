@@ -4,14 +4,8 @@ use Rattle.writer_state.proofs.Tests.{too-many, past-the-room, open-dec
 use Rattle.writer_state.proofs.possible.Statement.{statement}
 use Rattle.writer_state.proofs.possible.Tie as tie
 
-depth-requires : tie.Need-depth-requires
-depth-requires c κs = tt
-
 returns : tie.Need-returns
 returns c = too-many _ _ _ (c .before .depth .ensures .0) (c .if1 .taken)
-
-used-requires : tie.Need-used-requires
-used-requires c κs = tt
 
 add-if2 : tie.Need-add-if2
 add-if2 c = omega arith
@@ -28,6 +22,4 @@ returns-3 c =
     open-decide _ _ _ (b .before .before .depth .ensures .0) (omega arith) _ (b .used .ensures .0) (omega arith) _ (c .stand .ensures)
 
 pub possible-spec : {M : Type 1} → statement M
-possible-spec =
-    tie.close
-    (tie.spec depth-requires returns used-requires add-if2 returns-2 stand-requires returns-3)
+possible-spec = tie.close (tie.spec (λ c κs. tt) returns (λ c κs. tt) add-if2 returns-2 stand-requires returns-3)

@@ -38,17 +38,11 @@ mul-kind-of-2 c = omega arith
 element-copy-out-kind-of : tie.Need-element-copy-out-kind-of
 element-copy-out-kind-of c = omega arith
 
-kind-of-requires : tie.Need-kind-of-requires
-kind-of-requires c κs = tt
-
 enum-known-kind : tie.Need-enum-known-kind
 enum-known-kind c = c .match .keys1
 
 element-copy-out-holds : tie.Need-element-copy-out-holds
 element-copy-out-holds c = lit< tt
-
-holds-requires : tie.Need-holds-requires
-holds-requires c κs = tt
 
 enum-told : tie.Need-enum-told
 enum-told c = c .match .keys2
@@ -75,10 +69,10 @@ stands-spec =
     add-kind-of
     mul-kind-of-2
     element-copy-out-kind-of
-    kind-of-requires
+    (λ c κs. tt)
     enum-known-kind
     element-copy-out-holds
-    holds-requires
+    (λ c κs. tt)
     enum-told
     returns-3
     returns-4)

@@ -2,9 +2,6 @@
 use Rattle.doc_writer.proofs.bytes.append_binary.Statement.{statement}
 use Rattle.doc_writer.proofs.bytes.append_binary.Tie as tie
 
-append-binary-requires : tie.Need-append-binary-requires
-append-binary-requires c κs = tt
-
 same-length : tie.Need-same-length
 same-length c = c .before .before .append-binary .kept .0
 
@@ -12,4 +9,4 @@ returns : tie.Need-returns
 returns c = c .before .before .append-binary .ensures
 
 pub append-binary-spec : {M : Type 1} → statement M
-append-binary-spec = tie.close (tie.spec append-binary-requires same-length returns)
+append-binary-spec = tie.close (tie.spec (λ c κs. tt) same-length returns)

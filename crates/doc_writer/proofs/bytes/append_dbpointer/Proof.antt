@@ -2,9 +2,6 @@
 use Rattle.doc_writer.proofs.bytes.append_dbpointer.Statement.{statement}
 use Rattle.doc_writer.proofs.bytes.append_dbpointer.Tie as tie
 
-append-dbpointer-requires : tie.Need-append-dbpointer-requires
-append-dbpointer-requires c κs = tt
-
 same-length : tie.Need-same-length
 same-length c = c .before .before .append-dbpointer .kept .0
 
@@ -12,4 +9,4 @@ returns : tie.Need-returns
 returns c = c .before .before .append-dbpointer .ensures
 
 pub append-dbpointer-spec : {M : Type 1} → statement M
-append-dbpointer-spec = tie.close (tie.spec append-dbpointer-requires same-length returns)
+append-dbpointer-spec = tie.close (tie.spec (λ c κs. tt) same-length returns)

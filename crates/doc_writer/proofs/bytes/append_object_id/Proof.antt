@@ -2,9 +2,6 @@
 use Rattle.doc_writer.proofs.bytes.append_object_id.Statement.{statement}
 use Rattle.doc_writer.proofs.bytes.append_object_id.Tie as tie
 
-append-object-id-requires : tie.Need-append-object-id-requires
-append-object-id-requires c κs = tt
-
 same-length : tie.Need-same-length
 same-length c = c .before .before .append-object-id .kept .0
 
@@ -12,4 +9,4 @@ returns : tie.Need-returns
 returns c = c .before .before .append-object-id .ensures
 
 pub append-object-id-spec : {M : Type 1} → statement M
-append-object-id-spec = tie.close (tie.spec append-object-id-requires same-length returns)
+append-object-id-spec = tie.close (tie.spec (λ c κs. tt) same-length returns)

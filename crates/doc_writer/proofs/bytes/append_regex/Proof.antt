@@ -2,9 +2,6 @@
 use Rattle.doc_writer.proofs.bytes.append_regex.Statement.{statement}
 use Rattle.doc_writer.proofs.bytes.append_regex.Tie as tie
 
-append-regex-requires : tie.Need-append-regex-requires
-append-regex-requires c κs = tt
-
 same-length : tie.Need-same-length
 same-length c = c .before .before .append-regex .kept .0
 
@@ -12,4 +9,4 @@ returns : tie.Need-returns
 returns c = c .before .before .append-regex .ensures
 
 pub append-regex-spec : {M : Type 1} → statement M
-append-regex-spec = tie.close (tie.spec append-regex-requires same-length returns)
+append-regex-spec = tie.close (tie.spec (λ c κs. tt) same-length returns)

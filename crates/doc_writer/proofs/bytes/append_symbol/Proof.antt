@@ -2,9 +2,6 @@
 use Rattle.doc_writer.proofs.bytes.append_symbol.Statement.{statement}
 use Rattle.doc_writer.proofs.bytes.append_symbol.Tie as tie
 
-append-symbol-requires : tie.Need-append-symbol-requires
-append-symbol-requires c κs = tt
-
 same-length : tie.Need-same-length
 same-length c = c .before .before .append-symbol .kept .0
 
@@ -12,4 +9,4 @@ returns : tie.Need-returns
 returns c = c .before .before .append-symbol .ensures
 
 pub append-symbol-spec : {M : Type 1} → statement M
-append-symbol-spec = tie.close (tie.spec append-symbol-requires same-length returns)
+append-symbol-spec = tie.close (tie.spec (λ c κs. tt) same-length returns)

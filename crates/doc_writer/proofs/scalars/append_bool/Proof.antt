@@ -2,9 +2,6 @@
 use Rattle.doc_writer.proofs.scalars.append_bool.Statement.{statement}
 use Rattle.doc_writer.proofs.scalars.append_bool.Tie as tie
 
-append-bool-requires : tie.Need-append-bool-requires
-append-bool-requires c κs = tt
-
 same-length : tie.Need-same-length
 same-length c = c .before .before .append-bool .kept .0
 
@@ -12,4 +9,4 @@ returns : tie.Need-returns
 returns c = c .before .before .append-bool .ensures
 
 pub append-bool-spec : {M : Type 1} → statement M
-append-bool-spec = tie.close (tie.spec append-bool-requires same-length returns)
+append-bool-spec = tie.close (tie.spec (λ c κs. tt) same-length returns)

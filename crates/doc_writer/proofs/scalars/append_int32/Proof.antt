@@ -7,9 +7,6 @@ use Rattle.encode.proofs.Basic.{passed}
 use Rattle.doc_writer.proofs.scalars.append_int32.Statement.{statement}
 use Rattle.doc_writer.proofs.scalars.append_int32.Tie as tie
 
-append-int32-requires : tie.Need-append-int32-requires
-append-int32-requires c κs = tt
-
 same-length : tie.Need-same-length
 same-length c = c .before .before .append-int32 .kept .0
 
@@ -20,4 +17,4 @@ returns c =
     passed w32 (a .n) (s .fits .n) (λ (z : ℤ). performed (append (a .key .now) (int32 z)) (a .w .words) (a .out .now)) (c .before .before .append-int32 .ensures)
 
 pub append-int32-spec : {M : Type 1} → statement M
-append-int32-spec = tie.close (tie.spec append-int32-requires same-length returns)
+append-int32-spec = tie.close (tie.spec (λ c κs. tt) same-length returns)

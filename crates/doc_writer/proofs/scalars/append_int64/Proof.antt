@@ -7,9 +7,6 @@ use Rattle.encode.proofs.Basic.{passed}
 use Rattle.doc_writer.proofs.scalars.append_int64.Statement.{statement}
 use Rattle.doc_writer.proofs.scalars.append_int64.Tie as tie
 
-append-int64-requires : tie.Need-append-int64-requires
-append-int64-requires c κs = tt
-
 same-length : tie.Need-same-length
 same-length c = c .before .before .append-int64 .kept .0
 
@@ -20,4 +17,4 @@ returns c =
     passed w64 (a .n) (s .fits .n) (λ (z : ℤ). performed (append (a .key .now) (int64 z)) (a .w .words) (a .out .now)) (c .before .before .append-int64 .ensures)
 
 pub append-int64-spec : {M : Type 1} → statement M
-append-int64-spec = tie.close (tie.spec append-int64-requires same-length returns)
+append-int64-spec = tie.close (tie.spec (λ c κs. tt) same-length returns)

@@ -2,9 +2,6 @@
 use Rattle.doc_writer.proofs.scalars.append_max_key.Statement.{statement}
 use Rattle.doc_writer.proofs.scalars.append_max_key.Tie as tie
 
-append-max-key-requires : tie.Need-append-max-key-requires
-append-max-key-requires c κs = tt
-
 same-length : tie.Need-same-length
 same-length c = c .before .before .append-max-key .kept .0
 
@@ -12,4 +9,4 @@ returns : tie.Need-returns
 returns c = c .before .before .append-max-key .ensures
 
 pub append-max-key-spec : {M : Type 1} → statement M
-append-max-key-spec = tie.close (tie.spec append-max-key-requires same-length returns)
+append-max-key-spec = tie.close (tie.spec (λ c κs. tt) same-length returns)

@@ -2,9 +2,6 @@
 use Rattle.doc_writer.proofs.scalars.append_min_key.Statement.{statement}
 use Rattle.doc_writer.proofs.scalars.append_min_key.Tie as tie
 
-append-min-key-requires : tie.Need-append-min-key-requires
-append-min-key-requires c κs = tt
-
 same-length : tie.Need-same-length
 same-length c = c .before .before .append-min-key .kept .0
 
@@ -12,4 +9,4 @@ returns : tie.Need-returns
 returns c = c .before .before .append-min-key .ensures
 
 pub append-min-key-spec : {M : Type 1} → statement M
-append-min-key-spec = tie.close (tie.spec append-min-key-requires same-length returns)
+append-min-key-spec = tie.close (tie.spec (λ c κs. tt) same-length returns)

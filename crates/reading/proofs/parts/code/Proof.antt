@@ -3,11 +3,8 @@ use borrow.Author.Needs.{needs}
 use Rattle.reading.proofs.parts.code.Statement.{statement}
 use Rattle.reading.proofs.parts.code.Tie as tie
 
-part-at-requires : tie.Need-part-at-requires
-part-at-requires c κs = search needs
-
 returns : tie.Need-returns
 returns c = c .part-at .ensures
 
 pub code-spec : {M : Type 1} → statement M
-code-spec = tie.close (tie.spec part-at-requires returns)
+code-spec = tie.close (tie.spec (λ c κs. search needs) returns)

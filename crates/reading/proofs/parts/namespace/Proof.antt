@@ -3,11 +3,8 @@ use borrow.Author.Needs.{needs}
 use Rattle.reading.proofs.parts.namespace.Statement.{statement}
 use Rattle.reading.proofs.parts.namespace.Tie as tie
 
-part-at-requires : tie.Need-part-at-requires
-part-at-requires c κs = search needs
-
 returns : tie.Need-returns
 returns c = c .part-at .ensures
 
 pub namespace-spec : {M : Type 1} → statement M
-namespace-spec = tie.close (tie.spec part-at-requires returns)
+namespace-spec = tie.close (tie.spec (λ c κs. search needs) returns)

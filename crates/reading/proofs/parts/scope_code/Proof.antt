@@ -3,11 +3,8 @@ use borrow.Author.Needs.{needs}
 use Rattle.reading.proofs.parts.scope_code.Statement.{statement}
 use Rattle.reading.proofs.parts.scope_code.Tie as tie
 
-part-at-requires : tie.Need-part-at-requires
-part-at-requires c κs = search needs
-
 returns : tie.Need-returns
 returns c = c .part-at .ensures
 
 pub scope-code-spec : {M : Type 1} → statement M
-scope-code-spec = tie.close (tie.spec part-at-requires returns)
+scope-code-spec = tie.close (tie.spec (λ c κs. search needs) returns)

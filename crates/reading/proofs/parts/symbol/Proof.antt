@@ -3,11 +3,8 @@ use borrow.Author.Needs.{needs}
 use Rattle.reading.proofs.parts.symbol.Statement.{statement}
 use Rattle.reading.proofs.parts.symbol.Tie as tie
 
-part-at-requires : tie.Need-part-at-requires
-part-at-requires c κs = search needs
-
 returns : tie.Need-returns
 returns c = c .part-at .ensures
 
 pub symbol-spec : {M : Type 1} → statement M
-symbol-spec = tie.close (tie.spec part-at-requires returns)
+symbol-spec = tie.close (tie.spec (λ c κs. search needs) returns)

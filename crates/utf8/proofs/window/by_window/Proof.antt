@@ -13,24 +13,6 @@ Inv-loop s a b c any₀ j₀ any j = Turned s any j
 abbrev μ-loop : tie.MeasureT-loop
 μ-loop s a b c any₀ j₀ any j = length s - j
 
-byte-or-zero-requires : tie.Need-byte-or-zero-requires Inv-loop μ-loop
-byte-or-zero-requires c κs = search needs
-
-byte-or-zero-requires-2 : tie.Need-byte-or-zero-requires-2 Inv-loop μ-loop
-byte-or-zero-requires-2 c κs = search needs
-
-byte-or-zero-requires-3 : tie.Need-byte-or-zero-requires-3 Inv-loop μ-loop
-byte-or-zero-requires-3 c κs = search needs
-
-is-stray-requires : tie.Need-is-stray-requires Inv-loop μ-loop
-is-stray-requires c κs = search needs
-
-is-stray-requires-2 : tie.Need-is-stray-requires-2 Inv-loop μ-loop
-is-stray-requires-2 c κs = search needs
-
-is-stray-requires-3 : tie.Need-is-stray-requires-3 Inv-loop μ-loop
-is-stray-requires-3 c κs = search needs
-
 loop-holds : tie.Need-loop-holds Inv-loop μ-loop
 loop-holds c =
     let k = c .before .before .before .before .before .before .shared-slice-known .given in
@@ -39,61 +21,10 @@ loop-holds c =
     let d = c .before .before .before .byte-or-zero3 .ensures in
     (omega arith, went-start (λ i. k i .fits) a b d (c .before .before .is-stray .ensures) (c .before .is-stray2 .ensures) (c .is-stray3 .ensures))
 
-shared-slice-read-is-stray : tie.Need-shared-slice-read-is-stray Inv-loop μ-loop
-shared-slice-read-is-stray c = search needs
-
-sub-is-stray : tie.Need-sub-is-stray Inv-loop μ-loop
-sub-is-stray c = search needs
-
-shared-slice-read-is-stray-2 : tie.Need-shared-slice-read-is-stray-2 Inv-loop μ-loop
-shared-slice-read-is-stray-2 c = search needs
-
-sub-is-stray-2 : tie.Need-sub-is-stray-2 Inv-loop μ-loop
-sub-is-stray-2 c = search needs
-
-shared-slice-read-is-stray-3 : tie.Need-shared-slice-read-is-stray-3 Inv-loop μ-loop
-shared-slice-read-is-stray-3 c = search needs
-
-sub-is-stray-3 : tie.Need-sub-is-stray-3 Inv-loop μ-loop
-sub-is-stray-3 c = search needs
-
-shared-slice-read-is-stray-4 : tie.Need-shared-slice-read-is-stray-4 Inv-loop μ-loop
-shared-slice-read-is-stray-4 c = search needs
-
-is-stray-requires-4 : tie.Need-is-stray-requires-4 Inv-loop μ-loop
-is-stray-requires-4 c κs = search needs
-
-add-j : tie.Need-add-j Inv-loop μ-loop
-add-j c = search needs
-
-loop-less : tie.Need-loop-less Inv-loop μ-loop
-loop-less c = search needs
-
 loop-again : tie.Need-loop-again Inv-loop μ-loop
 loop-again c =
     let k = c .before .before .before .before .before .before .before .before .before .before .before .before .before .shared-slice-known .given in
     went-turn (λ i. k i .fits) (c .before .before .before .before .before .before .loop .inv) (c .is-stray4 .ensures)
-
-sub-byte-or-zero : tie.Need-sub-byte-or-zero Inv-loop μ-loop
-sub-byte-or-zero c = search needs
-
-byte-or-zero-requires-4 : tie.Need-byte-or-zero-requires-4 Inv-loop μ-loop
-byte-or-zero-requires-4 c κs = search needs
-
-sub-byte-or-zero-2 : tie.Need-sub-byte-or-zero-2 Inv-loop μ-loop
-sub-byte-or-zero-2 c = search needs
-
-byte-or-zero-requires-5 : tie.Need-byte-or-zero-requires-5 Inv-loop μ-loop
-byte-or-zero-requires-5 c κs = search needs
-
-sub-byte-or-zero-3 : tie.Need-sub-byte-or-zero-3 Inv-loop μ-loop
-sub-byte-or-zero-3 c = search needs
-
-byte-or-zero-requires-6 : tie.Need-byte-or-zero-requires-6 Inv-loop μ-loop
-byte-or-zero-requires-6 c κs = search needs
-
-is-stray-requires-5 : tie.Need-is-stray-requires-5 Inv-loop μ-loop
-is-stray-requires-5 c κs = search needs
 
 returns : tie.Need-returns Inv-loop μ-loop
 returns c =
@@ -108,29 +39,29 @@ by-window-spec =
     (tie.spec
     Inv-loop
     μ-loop
-    byte-or-zero-requires
-    byte-or-zero-requires-2
-    byte-or-zero-requires-3
-    is-stray-requires
-    is-stray-requires-2
-    is-stray-requires-3
+    (λ c κs. search needs)
+    (λ c κs. search needs)
+    (λ c κs. search needs)
+    (λ c κs. search needs)
+    (λ c κs. search needs)
+    (λ c κs. search needs)
     loop-holds
-    shared-slice-read-is-stray
-    sub-is-stray
-    shared-slice-read-is-stray-2
-    sub-is-stray-2
-    shared-slice-read-is-stray-3
-    sub-is-stray-3
-    shared-slice-read-is-stray-4
-    is-stray-requires-4
-    add-j
-    loop-less
+    (λ c. search needs)
+    (λ c. search needs)
+    (λ c. search needs)
+    (λ c. search needs)
+    (λ c. search needs)
+    (λ c. search needs)
+    (λ c. search needs)
+    (λ c κs. search needs)
+    (λ c. search needs)
+    (λ c. search needs)
     loop-again
-    sub-byte-or-zero
-    byte-or-zero-requires-4
-    sub-byte-or-zero-2
-    byte-or-zero-requires-5
-    sub-byte-or-zero-3
-    byte-or-zero-requires-6
-    is-stray-requires-5
+    (λ c. search needs)
+    (λ c κs. search needs)
+    (λ c. search needs)
+    (λ c κs. search needs)
+    (λ c. search needs)
+    (λ c κs. search needs)
+    (λ c κs. search needs)
     returns)

@@ -15,29 +15,8 @@ returns : tie.Need-returns
 unfolding codeSize
 returns c = rw (lt-leb _ _ (c .if1 .taken))
 
-sub-read-len : tie.Need-sub-read-len
-sub-read-len c = search needs
-
-part-read-len-start : tie.Need-part-read-len-start
-part-read-len-start c = search needs
-
-part-read-len-end : tie.Need-part-read-len-end
-part-read-len-end c = search needs
-
-read-len-requires : tie.Need-read-len-requires
-read-len-requires c κs = search needs
-
-enum-known-number : tie.Need-enum-known-number
-enum-known-number c = search needs
-
-enum-known-n : tie.Need-enum-known-n
-enum-known-n c = search needs
-
 sub-size : tie.Need-sub-size
 sub-size c = omega (arith, string-is _ _ (answered saidLength (c .before .before .before .read-len .ensures) (c .before .n .given .1)))
-
-is-text-requires : tie.Need-is-text-requires
-is-text-requires c κs = search needs
 
 returns-2 : tie.Need-returns-2
 unfolding codeSize
@@ -54,15 +33,6 @@ add-scope : tie.Need-add-scope
 add-scope c =
     let d = c .before .before .before in
     omega (arith, string-is _ _ (answered saidLength (d .before .before .read-len .ensures) (d .n .given .1)))
-
-scope-requires : tie.Need-scope-requires
-scope-requires c κs = search needs
-
-enum-known-number-2 : tie.Need-enum-known-number-2
-enum-known-number-2 c = search needs
-
-enum-told : tie.Need-enum-told
-enum-told c = search needs
 
 returns-3 : tie.Need-returns-3
 unfolding codeSize
@@ -105,19 +75,19 @@ code-len-spec =
     tie.close
     (tie.spec
     returns
-    sub-read-len
-    part-read-len-start
-    part-read-len-end
-    read-len-requires
-    enum-known-number
-    enum-known-n
+    (λ c. search needs)
+    (λ c. search needs)
+    (λ c. search needs)
+    (λ c κs. search needs)
+    (λ c. search needs)
+    (λ c. search needs)
     sub-size
-    is-text-requires
+    (λ c κs. search needs)
     returns-2
     add-scope
-    scope-requires
-    enum-known-number-2
-    enum-told
+    (λ c κs. search needs)
+    (λ c. search needs)
+    (λ c. search needs)
     returns-3
     returns-4
     returns-5)

@@ -15,30 +15,6 @@ use Rattle.value.proofs.inside.is_old_binary.Tie as tie
 returns : tie.Need-returns
 returns c = rw (lt-leb _ _ (c .if1 .taken))
 
-sub-u32-from-slice : tie.Need-sub-u32-from-slice
-sub-u32-from-slice c = search needs
-
-part-u32-from-slice-start : tie.Need-part-u32-from-slice-start
-part-u32-from-slice-start c = search needs
-
-part-u32-from-slice-end : tie.Need-part-u32-from-slice-end
-part-u32-from-slice-end c = search needs
-
-u32-from-slice-requires : tie.Need-u32-from-slice-requires
-u32-from-slice-requires c κs = search needs
-
-enum-told : tie.Need-enum-told
-enum-told c = search needs
-
-enum-known-n : tie.Need-enum-known-n
-enum-known-n c = search needs
-
-cast-result : tie.Need-cast-result
-cast-result c = search needs
-
-sub-result : tie.Need-sub-result
-sub-result c = search needs
-
 returns-2 : tie.Need-returns-2
 returns-2 c =
     let b = c .before .before in
@@ -58,13 +34,13 @@ is-old-binary-spec =
     tie.close
     (tie.spec
     returns
-    sub-u32-from-slice
-    part-u32-from-slice-start
-    part-u32-from-slice-end
-    u32-from-slice-requires
-    enum-told
-    enum-known-n
-    cast-result
-    sub-result
+    (λ c. search needs)
+    (λ c. search needs)
+    (λ c. search needs)
+    (λ c κs. search needs)
+    (λ c. search needs)
+    (λ c. search needs)
+    (λ c. search needs)
+    (λ c. search needs)
     returns-2
     returns-3)

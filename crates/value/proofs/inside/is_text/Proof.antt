@@ -5,14 +5,8 @@ use Rattle.bson.specs.Utf8.{utf8}
 use Rattle.value.proofs.inside.is_text.Statement.{statement}
 use Rattle.value.proofs.inside.is_text.Tie as tie
 
-bytes-of-requires : tie.Need-bytes-of-requires
-bytes-of-requires c κs = search needs
-
-is-utf8-requires : tie.Need-is-utf8-requires
-is-utf8-requires c κs = search needs
-
 returns : tie.Need-returns
 returns c = c .is-utf8 .ensures ∙ ap utf8 (c .before .bytes-of .ensures)
 
 pub is-text-spec : {M : Type 1} → statement M
-is-text-spec = tie.close (tie.spec bytes-of-requires is-utf8-requires returns)
+is-text-spec = tie.close (tie.spec (λ c κs. search needs) (λ c κs. search needs) returns)

@@ -51,12 +51,5 @@ add-result c =
 cast-result-2 : tie.Need-cast-result-2
 cast-result-2 c = kept _ (held _ (c .before .fits .x)) (c .if1 .left)
 
-returns : tie.Need-returns
-returns c = search needs
-
-returns-2 : tie.Need-returns-2
-returns-2 c = search needs
-
 pub distance-spec : {M : Type 1} → statement M
-distance-spec =
-    tie.close (tie.spec sub-result cast-result add-result cast-result-2 returns returns-2)
+distance-spec = tie.close (tie.spec sub-result cast-result add-result cast-result-2 (λ c. search needs) (λ c. search needs))

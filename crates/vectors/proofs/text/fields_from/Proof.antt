@@ -11,49 +11,19 @@ Inv-loop text k from₀ i₀ from i = from ≤ length text
 abbrev μ-loop : tie.MeasureT-loop
 μ-loop text k from₀ i₀ from i = k - i
 
-loop-holds : tie.Need-loop-holds Inv-loop μ-loop
-loop-holds c = search needs
-
-find-requires : tie.Need-find-requires Inv-loop μ-loop
-find-requires c κs = search needs
-
-behind-requires : tie.Need-behind-requires Inv-loop μ-loop
-behind-requires c κs = search needs
-
-add-i : tie.Need-add-i Inv-loop μ-loop
-add-i c = search needs
-
-loop-less : tie.Need-loop-less Inv-loop μ-loop
-loop-less c = search needs
-
-loop-again : tie.Need-loop-again Inv-loop μ-loop
-loop-again c = search needs
-
-sub-result : tie.Need-sub-result Inv-loop μ-loop
-sub-result c = search needs
-
-part-result-start : tie.Need-part-result-start Inv-loop μ-loop
-part-result-start c = search needs
-
-part-result-end : tie.Need-part-result-end Inv-loop μ-loop
-part-result-end c = search needs
-
-returns : tie.Need-returns Inv-loop μ-loop
-returns c = search needs
-
 pub fields-from-spec : {M : Type 1} → statement M
 fields-from-spec =
     tie.close
     (tie.spec
     Inv-loop
     μ-loop
-    loop-holds
-    find-requires
-    behind-requires
-    add-i
-    loop-less
-    loop-again
-    sub-result
-    part-result-start
-    part-result-end
-    returns)
+    (λ c. search needs)
+    (λ c κs. search needs)
+    (λ c κs. search needs)
+    (λ c. search needs)
+    (λ c. search needs)
+    (λ c. search needs)
+    (λ c. search needs)
+    (λ c. search needs)
+    (λ c. search needs)
+    (λ c. search needs))

@@ -9,8 +9,5 @@ use Rattle.vectors.proofs.text.wide.Tie as tie
 cast-result : tie.Need-cast-result
 cast-result c = rw (toZ-ofZ w32 (c .args .x) (c .fits .x)) (record { sfits = omega arith })
 
-returns : tie.Need-returns
-returns c = search needs
-
 pub wide-spec : {M : Type 1} → statement M
-wide-spec = tie.close (tie.spec cast-result returns)
+wide-spec = tie.close (tie.spec cast-result (λ c. search needs))
