@@ -1,5 +1,5 @@
 -- Determined: the promise of each call allows one answer (document 01, "What every answer is bound to"). Assumes nothing.
-use mathlib.Core.Path.{_≡_, sym, _∙_}
+use mathlib.Core.Path.{sym, _∙_}
 use contract.Lifetimes.{Lfts}
 use borrow.Fn.Kinds.{Dens}
 use Rattle.laws.proofs.Determined.{Determined}

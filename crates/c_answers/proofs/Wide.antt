@@ -1,5 +1,5 @@
 -- A number of 32 bits is one of 64 (BSON 1.1, "Basic Types"). Assumes nothing.
-use Prim.Native.Nat.{ℕ, _<_, _^_}
+use Prim.Native.Nat.{ℕ}
 use mathlib.Core.Path.{_≡_}
 use native.Mathlib.Omega.{arith}
 use lib.IntN.{ℤ}

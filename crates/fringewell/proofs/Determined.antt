@@ -6,7 +6,7 @@ use mathlib.Core.List.{List}
 use contract.Lifetimes.{Lfts}
 use borrow.Fn.Kinds.{Dens}
 use denote.Ref.{now}
-use Rattle.bson.specs.Writer.{Desk, desk}
+use Rattle.bson.specs.Writer.{desk}
 use Rattle.laws.proofs.Determined.{Determined, DeterminedBuf}
 use Rattle.fringewell.proofs.fringewell_check.Reads as check-reads
 use Rattle.fringewell.proofs.fringewell_check.Kinds as check-kinds

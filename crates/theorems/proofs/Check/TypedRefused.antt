@@ -1,5 +1,5 @@
 -- The typed getters of numbers are refused only as the typed lookup is (document 01, "Values"; demand 3). Assumes nothing.
-use Prim.Native.Nat.{ℕ, _-_}
+use Prim.Native.Nat.{ℕ}
 use mathlib.Core.Path.{_≡_, refl, sym, _∙_}
 use mathlib.Core.List.{List}
 use Rattle.bson.specs.Answer.{Answer, gives, refuses}

@@ -11,7 +11,7 @@ use lib.Dec.{leb}
 use Rattle.bson.specs.Answer.{Answer, gives, refuses, then, at, unless}
 use Rattle.bson.specs.Bytes.{bytes}
 use Rattle.bson.specs.Cstring.{Limit}
-use Rattle.bson.specs.Step.{admitted, Cursor, cursor, Element, past, span, Iteration, ended, broken, more, iterateUnder}
+use Rattle.bson.specs.Step.{admitted, Cursor, cursor, Element, span, Iteration, ended, broken, more, iterateUnder}
 use Rattle.bson.specs.Value.{valueOf}
 use Rattle.bson.specs.Level.{Opening, closed, opens, opening, Level, outermost, deeper}
 use Rattle.bson.specs.Check.{Walk, keyPasses, visit, inside, opened, along, walkFor, walkUnder, checkUnder}

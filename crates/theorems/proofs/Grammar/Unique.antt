@@ -11,7 +11,6 @@ use Rattle.bson.specs.Meaning.{Holding, single, nested, holding, Yields, MeansF
 use Rattle.laws.proofs.AnswerLaws.{gives-injective}
 use Rattle.theorems.proofs.Grammar.TreeReads.{tree-means}
 use Rattle.theorems.proofs.Check.Spots.{one-element, end-no-element}
-use Rattle.bson.specs.Cstring.{unlimited}
 
 single-not-nested : {item : Item} {n : Nest} {p : Part} → single item ≡ nested n p → ⊥
 single-not-nested e = let z : _≡_ {A = ℕ} 0 1 = cc in omega arith
