@@ -1,4 +1,4 @@
--- The runs of a text and of binary data are its bytes, and a key handed on whole (BSON 1.1, "string" and "binary"). Assumes nothing.
+-- The runs of a text and of binary data are its bytes, and a key handed on whole (BSON 1.1, "string" and "binary").
 use Prim.Native.Nat.{ℕ, _+_, _-_}
 use mathlib.Core.Path.{_≡_, refl, sym, ap, _∙_}
 use mathlib.Core.List.{List, [], _∷_, _++_, append-nil, append-assoc}

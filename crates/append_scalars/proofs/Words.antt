@@ -1,4 +1,4 @@
--- The runs of a number are its bytes (BSON 1.1, "Basic Types"). Assumes nothing.
+-- The runs of a number are its bytes (BSON 1.1, "Basic Types").
 use Prim.Native.Nat.{ℕ}
 use mathlib.Core.Path.{_≡_, refl}
 use mathlib.Core.List.{List, [], _∷_, _++_, append-nil}

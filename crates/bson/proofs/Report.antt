@@ -1,4 +1,4 @@
--- The definition prints of P12 what document 01 prints, and of two more documents what its rules say. Assumes nothing.
+-- The definition prints of P12 what document 01 prints, and of two more documents what its rules say.
 use Prim.Native.Nat.{ℕ}
 use mathlib.Core.Path.{_≡_, refl}
 use mathlib.Core.List.{List, [], _∷_, _++_}

@@ -1,5 +1,5 @@
 -- The numbers that C is handed tell the answer: it is had again from them, and a lookup's from them and the document (document 01, "Numbers
--- returned" and module 8), whatever the limits. Assumes nothing.
+-- returned" and module 8), whatever the limits.
 use Prim.Native.Nat.{ℕ, _<_}
 use mathlib.Core.Path.{_≡_, refl, sym, ap, _∙_}
 use mathlib.Core.List.{List}

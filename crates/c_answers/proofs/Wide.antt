@@ -1,4 +1,4 @@
--- A number of 32 bits is one of 64 (BSON 1.1, "Basic Types"). Assumes nothing.
+-- A number of 32 bits is one of 64 (BSON 1.1, "Basic Types").
 use Prim.Native.Nat.{ℕ}
 use mathlib.Core.Path.{_≡_}
 use native.Mathlib.Omega.{arith}

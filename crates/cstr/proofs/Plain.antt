@@ -1,4 +1,4 @@
--- A text that runs to a zero byte through plain bytes alone needs no second pass. Assumes nothing.
+-- A text that runs to a zero byte through plain bytes alone needs no second pass.
 use Prim.Native.Nat.{ℕ, zero, suc, _+_, _-_, _<_, _≤_}
 use mathlib.Core.Path.{_≡_, refl, ap, sym, _∙_}
 use mathlib.Core.List.{List, [], _∷_}

@@ -1,5 +1,4 @@
 -- Powers: the code's table holds the powers of ten, by one computed test, and what a turn of each loop over it leaves (document 02, request 5).
--- Assumes nothing.
 use Prim.Native.Nat.{ℕ, suc, _+_, _-_, _*_, _%_, _^_, _≤_, _<_}
 use mathlib.Core.Path.{_≡_, sym, ap, _∙_}
 use mathlib.Core.Bool.{true}

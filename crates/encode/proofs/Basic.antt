@@ -1,5 +1,4 @@
 -- Basic types: a signed number as the code reads it from its bits is the number, and a boolean's byte is 1 or 0 (BSON 1.1, "Basic Types").
--- Assumes nothing.
 use mathlib.Core.Path.{_≡_, refl, ap, _∙_}
 use mathlib.Core.Bool.{Bool, true, false, cond}
 use lib.IntN.{ℤ}

@@ -1,4 +1,4 @@
--- Two's complement: the bits of a number from its sign, by one law for every width (BSON 1.1, "Basic Types"). Assumes nothing.
+-- Two's complement: the bits of a number from its sign, by one law for every width (BSON 1.1, "Basic Types").
 use Prim.Native.Nat.{ℕ, suc, _+_, _-_, _≤_, _^_}
 use mathlib.Core.Path.{_≡_, refl, sym, ap, _∙_}
 use mathlib.Core.Bool.{true, false, true≢false}

@@ -1,5 +1,5 @@
 -- How a step goes at each cursor, that it ends only at the terminator, where it refuses, and where the next one begins (document 01,
--- "Admission and one step"). Assumes nothing.
+-- "Admission and one step").
 use Prim.Native.Nat.{ℕ, _≤_, _<_}
 use mathlib.Core.Path.{_≡_, refl, sym, ap, _∙_}
 use mathlib.Core.List.{List}

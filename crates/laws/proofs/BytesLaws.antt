@@ -1,4 +1,4 @@
--- Equal bytes, byte by byte, and the bytes of a part. Assumes nothing.
+-- Equal bytes, byte by byte, and the bytes of a part.
 use Prim.Native.Nat.{ℕ, suc, _+_, _-_, _<_, _≤_}
 use mathlib.Core.Path.{_≡_, refl, ap, sym, _∙_}
 use mathlib.Core.List.{List, [], _∷_, _++_}

@@ -1,4 +1,4 @@
--- Tests, parts and computed tables: what the crates above cite. Assumes nothing.
+-- Tests, parts and computed tables: what the crates above cite.
 use Prim.Native.Nat.{ℕ, zero, suc, _-_, _<_}
 use mathlib.Core.Path.{_≡_, refl, subst, sym}
 use mathlib.Core.List.{List}

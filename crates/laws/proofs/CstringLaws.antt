@@ -1,4 +1,4 @@
--- How many bytes stand before the first that passes a test, and that a zero-ended text is a valid one, with its zero behind it. Assumes nothing.
+-- How many bytes stand before the first that passes a test, and that a zero-ended text is a valid one, with its zero behind it.
 use Prim.Native.Nat.{ℕ, zero, suc, _+_, _<_, _≤_}
 use mathlib.Core.Path.{_≡_, refl, ap, sym, _∙_}
 use mathlib.Core.List.{List, [], _∷_, _++_}

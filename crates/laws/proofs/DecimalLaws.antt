@@ -1,5 +1,5 @@
 -- How many digits a number has, that they name it, and that they are a valid key (document 01, "Writer and joining": keys "0, 1, 2 on in
--- decimal"). Assumes nothing.
+-- decimal").
 use Prim.Native.Nat.{ℕ, zero, suc, _+_, _-_, _*_, _/_, _%_, _^_, _≤_, _<_}
 use mathlib.Core.Path.{_≡_, refl, ap, _∙_}
 use mathlib.Core.List.{List, [], _∷_, _++_}

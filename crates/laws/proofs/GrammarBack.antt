@@ -1,5 +1,5 @@
 -- Numbers, texts and documents that are framed and read have just the bytes that the grammar gives them: the way back from GrammarLaws (BSON
--- 1.1, "Basic Types" and "Specification"). Assumes nothing.
+-- 1.1, "Basic Types" and "Specification").
 use Prim.Native.Nat.{ℕ, suc, _+_, _*_, _-_, _/_, _%_, _≤_, _<_}
 use mathlib.Core.Path.{_≡_, refl, sym, ap, _∙_}
 use mathlib.Core.List.{List, [], _∷_, _++_, append-assoc}

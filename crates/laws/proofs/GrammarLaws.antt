@@ -1,5 +1,4 @@
 -- The bytes that the grammar gives numbers, texts and documents are read and framed as those (BSON 1.1, "Basic Types" and "Specification").
--- Assumes nothing.
 use Prim.Native.Nat.{ℕ, suc, _+_, _*_, _-_, _/_, _%_, _≤_, _<_}
 use mathlib.Core.Path.{_≡_, refl, sym, ap, _∙_}
 use mathlib.Core.List.{List, [], _∷_, _++_, append-assoc}

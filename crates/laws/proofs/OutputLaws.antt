@@ -1,5 +1,5 @@
 -- What follows from the definition of a lent buffer: one run after the other is one run, and the bytes behind stay (document 01, "What
--- every answer is bound to"). Assumes nothing.
+-- every answer is bound to").
 use Prim.Native.Nat.{ℕ, _+_, _-_, _≤_, _<_}
 use mathlib.Core.Path.{_≡_, refl, sym, ap, subst, _∙_}
 use mathlib.Core.Bool.{true, false}

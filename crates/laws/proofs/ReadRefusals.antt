@@ -1,5 +1,5 @@
 -- Every reading call, and joining, refuses by numbers that document 01, "Numbers returned", gives it, so never by 0: the fuel of the iteration
--- and of the walk does not run out. Assumes nothing.
+-- and of the walk does not run out.
 use Prim.Native.Nat.{ℕ, zero, suc, _+_, _-_, _<_}
 use mathlib.Core.Path.{_≡_, refl, sym, ap, _∙_}
 use mathlib.Core.List.{List, [], _∷_}

@@ -1,4 +1,4 @@
--- Trees: elements behind others, and the bytes of elements (BSON 1.1, `e_list`). Assumes nothing.
+-- Trees: elements behind others, and the bytes of elements (BSON 1.1, `e_list`).
 use Prim.Native.Nat.{ℕ, suc, _+_, _≤_}
 use mathlib.Core.Path.{_≡_, refl, sym, ap, subst, _∙_}
 use mathlib.Core.List.{List, _++_, append-assoc, append-nil}

@@ -1,5 +1,5 @@
 -- The words of a writer's state: of a fresh one, after an element more, after an opening and after a closing (document 01, "Writer and
--- joining"). Assumes nothing.
+-- joining").
 use Prim.Native.Nat.{ℕ, zero, suc, _+_, _-_, _≤_, _<_}
 use mathlib.Core.Path.{_≡_, refl, ap, _∙_}
 use mathlib.Core.Bool.{true}

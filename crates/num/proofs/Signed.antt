@@ -1,4 +1,4 @@
--- Two's complement: the upper half of a width's words is the numbers from -1 down, by one law for every width. Assumes nothing.
+-- Two's complement: the upper half of a width's words is the numbers from -1 down, by one law for every width.
 use Prim.Native.Nat.{ℕ, zero, suc, _+_, _-_, _^_, _<_, _≤_}
 use mathlib.Core.Path.{_≡_, refl, ap, _∙_}
 use native.Mathlib.Nat.{zero-add}

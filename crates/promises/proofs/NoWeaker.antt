@@ -1,5 +1,5 @@
 -- What C is told of a call that writes is all that the call itself promises: its number and what it leaves, and besides the bytes used (document
--- 01, "Writer and joining"). Assumes nothing.
+-- 01, "Writer and joining").
 use Prim.Native.Nat.{ℕ}
 use mathlib.Core.Path.{_≡_, sym, ap, _∙_}
 use mathlib.Core.List.{List}

@@ -1,5 +1,5 @@
 -- An element that a step or a lookup gave is read by its numbers as at its place, without a second step (document 01, "Values"), under a
--- limit and without one. Assumes nothing.
+-- limit and without one.
 use Prim.Native.Nat.{ℕ}
 use mathlib.Core.Path.{_≡_, refl, sym, ap, _∙_}
 use mathlib.Core.List.{List}

@@ -1,5 +1,5 @@
 -- The element lines go from step to step: what each answer of the step at an offset means for the lines from there (document 01, "Bytes to
--- try"). Assumes nothing.
+-- try").
 use Prim.Native.Nat.{ℕ, _≤_, _<_}
 use mathlib.Core.Path.{_≡_, refl, ap, sym, _∙_}
 use mathlib.Core.List.{List, [], _∷_}

@@ -1,4 +1,4 @@
--- The code's table sizes each tag as the definition does: one test over all 256 tags. Assumes nothing.
+-- The code's table sizes each tag as the definition does: one test over all 256 tags.
 use Prim.Native.Nat.{ℕ, _<_, _≤_, _/_}
 use mathlib.Core.Path.{_≡_, ap}
 use mathlib.Core.List.{List, [], _∷_}

@@ -1,4 +1,4 @@
--- AsciiLaws: bytes below 128, and one test of an `or` for all of them. Assumes nothing.
+-- AsciiLaws: bytes below 128, and one test of an `or` for all of them.
 use Prim.Native.Nat.{ℕ, suc, _+_, _<_, _≤_}
 use mathlib.Core.Path.{_≡_, sym, _∙_}
 use mathlib.Core.List.{List}

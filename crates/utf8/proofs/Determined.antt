@@ -1,4 +1,4 @@
--- Determined: the promise of `is_utf8` allows one answer. Assumes nothing.
+-- Determined: the promise of `is_utf8` allows one answer.
 use mathlib.Core.Path.{sym, _∙_}
 use contract.Lifetimes.{Lfts}
 use borrow.Fn.Kinds.{Dens}

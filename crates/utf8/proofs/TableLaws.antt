@@ -1,4 +1,4 @@
--- TableLaws: the two tables are the rows of RFC 3629, by one test of every byte behind every state (document 02, request 8). Assumes nothing.
+-- TableLaws: the two tables are the rows of RFC 3629, by one test of every byte behind every state (document 02, request 8).
 use Prim.Native.Nat.{ℕ, zero, suc, _+_, _*_, _/_, _%_, _<_, _≤_}
 use mathlib.Core.Path.{_≡_, refl, ap, sym, _∙_}
 use mathlib.Core.List.{List, [], _∷_}

@@ -1,4 +1,4 @@
--- TextLaws: a text from an offset on, past a block of ASCII, to its end. Assumes nothing.
+-- TextLaws: a text from an offset on, past a block of ASCII, to its end.
 use Prim.Native.Nat.{ℕ, zero, suc, _+_, _-_, _<_, _≤_}
 use mathlib.Core.Path.{_≡_, refl, ap, sym, _∙_}
 use mathlib.Core.List.{List, [], _∷_, _++_, append-nil}

@@ -1,4 +1,4 @@
--- A tag that differs from the key of every arm is in no row of the table. Assumes nothing.
+-- A tag that differs from the key of every arm is in no row of the table.
 use Prim.Native.Nat.{ℕ}
 use mathlib.Core.Path.{_≡_, refl, sym, _∙_}
 use mathlib.Core.List.{List, [], _∷_}

@@ -1,4 +1,4 @@
--- The negation of a number that is not below 0 fits, by one law for every width. Assumes nothing.
+-- The negation of a number that is not below 0 fits, by one law for every width.
 use Prim.Native.Nat.{ℕ, zero, suc, _^_, _<_}
 use native.Mathlib.Omega.{arith}
 use lib.IntN.{pos, negsuc, _-ℤ_, +ℤ-idl}

@@ -1,4 +1,4 @@
--- `append_bytes::append_binary` meets its contract: each way out by the subtype. Assumes nothing.
+-- `append_bytes::append_binary` meets its contract: each way out by the subtype.
 use mathlib.Core.Path.{refl}
 use native.Mathlib.Omega.{arith}
 use borrow.Author.Needs.{needs}

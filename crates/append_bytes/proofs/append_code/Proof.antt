@@ -1,4 +1,4 @@
--- `append_bytes::append_code` meets its contract: a text by its tag. Assumes nothing.
+-- `append_bytes::append_code` meets its contract: a text by its tag.
 use Rattle.bson.specs.Writer.{answer, performed}
 use Rattle.bson.specs.Grammar.{row}
 use Rattle.appending.specs.Element.{appending}

@@ -1,4 +1,4 @@
--- `append_bytes::append_dbpointer` meets its contract: the namespace is a text, and the id is behind it. Assumes nothing.
+-- `append_bytes::append_dbpointer` meets its contract: the namespace is a text, and the id is behind it.
 use Rattle.bson.specs.Writer.{answer, performed}
 use Rattle.bson.specs.Grammar.{row}
 use Rattle.appending.specs.Element.{appending}

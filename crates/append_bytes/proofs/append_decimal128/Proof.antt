@@ -1,4 +1,4 @@
--- `append_bytes::append_decimal128` meets its contract: its bytes are the first run. Assumes nothing.
+-- `append_bytes::append_decimal128` meets its contract: its bytes are the first run.
 use mathlib.Core.Path.{refl}
 use mathlib.Core.List.{append-nil}
 use Rattle.bson.specs.Writer.{answer, performed}

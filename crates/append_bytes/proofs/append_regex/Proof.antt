@@ -1,4 +1,4 @@
--- `append_bytes::append_regex` meets its contract: the pattern and the options, each with its zero, and both tested. Assumes nothing.
+-- `append_bytes::append_regex` meets its contract: the pattern and the options, each with its zero, and both tested.
 use mathlib.Core.Path.{refl}
 use Rattle.bson.specs.Writer.{answer, performed}
 use Rattle.bson.specs.Grammar.{row}

@@ -1,4 +1,4 @@
--- `append_bytes::append_text` meets its contract: refused as its head is, or the length, the text and its zero behind it. Assumes nothing.
+-- `append_bytes::append_text` meets its contract: refused as its head is, or the length, the text and its zero behind it.
 use Prim.Native.Nat.{ℕ, _+_, _-_}
 use mathlib.Core.Path.{ap}
 use mathlib.Core.List.{[], _∷_}

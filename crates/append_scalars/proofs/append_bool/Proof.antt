@@ -1,4 +1,4 @@
--- `append_scalars::append_bool` meets its contract: refused as its head is, or a byte behind it, 1 or 0. Assumes nothing.
+-- `append_scalars::append_bool` meets its contract: refused as its head is, or a byte behind it, 1 or 0.
 use Prim.Native.Nat.{ℕ, _-_}
 use mathlib.Core.List.{[], _∷_}
 use mathlib.Core.Path.{refl, ap}

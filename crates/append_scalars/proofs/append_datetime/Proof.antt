@@ -1,4 +1,4 @@
--- `append_scalars::append_datetime` meets its contract: the eight bytes of its bits. Assumes nothing.
+-- `append_scalars::append_datetime` meets its contract: the eight bytes of its bits.
 use mathlib.Core.Path.{ap}
 use mir.Syntax.{w64}
 use Rattle.bson.specs.Writer.{answer, performed}

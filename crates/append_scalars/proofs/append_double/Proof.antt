@@ -1,4 +1,4 @@
--- `append_scalars::append_double` meets its contract: the bits are its eight bytes. Assumes nothing.
+-- `append_scalars::append_double` meets its contract: the bits are its eight bytes.
 use Rattle.bson.specs.Writer.{answer, performed}
 use Rattle.bson.specs.Grammar.{row}
 use Rattle.appending.specs.Element.{appending}

@@ -1,4 +1,4 @@
--- `append_scalars::append_eight` meets its contract: the bytes of both halves. Assumes nothing.
+-- `append_scalars::append_eight` meets its contract: the bytes of both halves.
 use Rattle.bson.specs.Grammar.{bytes64}
 use Rattle.append_scalars.proofs.append_eight.Statement.{statement}
 use Rattle.append_scalars.proofs.append_eight.Tie as tie

@@ -1,4 +1,4 @@
--- `append_scalars::append_int32` meets its contract: refused as its head is, or the four bytes of its bits behind it. Assumes nothing.
+-- `append_scalars::append_int32` meets its contract: refused as its head is, or the four bytes of its bits behind it.
 use Prim.Native.Nat.{ℕ, _-_}
 use mathlib.Core.List.{[], _∷_}
 use mathlib.Core.Path.{ap, sym, _∙_}

@@ -1,4 +1,4 @@
--- `append_scalars::append_min_key` meets its contract: a tag and a key alone. Assumes nothing.
+-- `append_scalars::append_min_key` meets its contract: a tag and a key alone.
 use Rattle.bson.specs.Writer.{answer, performed}
 use Rattle.bson.specs.Grammar.{row}
 use Rattle.appending.specs.Element.{appending}

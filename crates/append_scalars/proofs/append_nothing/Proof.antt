@@ -1,4 +1,4 @@
--- `append_scalars::append_nothing` meets its contract: a head alone. Assumes nothing.
+-- `append_scalars::append_nothing` meets its contract: a head alone.
 use Rattle.appending.proofs.Filled.{nothing-put}
 use borrow.Author.Needs.{needs}
 use Rattle.append_scalars.proofs.append_nothing.Statement.{statement}

@@ -1,4 +1,4 @@
--- `append_scalars::append_timestamp` meets its contract: increment, then seconds. Assumes nothing.
+-- `append_scalars::append_timestamp` meets its contract: increment, then seconds.
 use Rattle.bson.specs.Writer.{answer, performed}
 use Rattle.bson.specs.Grammar.{row}
 use Rattle.appending.specs.Element.{appending}

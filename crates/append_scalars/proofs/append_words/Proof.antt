@@ -1,4 +1,4 @@
--- `append_scalars::append_words` meets its contract: refused as its head is, or two words behind it. Assumes nothing.
+-- `append_scalars::append_words` meets its contract: refused as its head is, or two words behind it.
 use Prim.Native.Nat.{ℕ, _-_}
 use mathlib.Core.Path.{ap}
 use mathlib.Core.List.{[], _∷_}

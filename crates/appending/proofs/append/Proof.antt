@@ -1,4 +1,4 @@
--- `appending::append` meets its contract: refused as its head is, or the runs are put behind it. Assumes nothing.
+-- `appending::append` meets its contract: refused as its head is, or the runs are put behind it.
 use mathlib.Core.Path.{ap}
 use Prim.Native.Nat.{ℕ, _-_}
 use native.Mathlib.Omega.{arith}

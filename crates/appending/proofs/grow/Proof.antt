@@ -1,4 +1,4 @@
--- `appending::grow` meets its contract: each way out by the kind. Assumes nothing.
+-- `appending::grow` meets its contract: each way out by the kind.
 use native.Mathlib.Omega.{arith}
 use lib.Dec.{lit<}
 use borrow.Author.Tests.{leb-true}

@@ -1,4 +1,4 @@
--- `appending::head` meets its contract: refused as the innermost is, or put in it. Assumes nothing.
+-- `appending::head` meets its contract: refused as the innermost is, or put in it.
 use Rattle.bson.specs.Writer.{roomFor}
 use Rattle.laws.proofs.AnswerLaws.{answered}
 use Rattle.writer_state.specs.Said.{said}

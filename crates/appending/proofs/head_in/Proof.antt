@@ -1,4 +1,4 @@
--- `appending::head_in` meets its contract: refused by the number, or the head as it is put. Assumes nothing.
+-- `appending::head_in` meets its contract: refused by the number, or the head as it is put.
 use native.Mathlib.Omega.{arith}
 use Rattle.appending.proofs.Cascade.{left-open}
 use Rattle.appending.proofs.Element.{few, grows, refused, done}

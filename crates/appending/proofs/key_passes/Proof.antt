@@ -1,4 +1,4 @@
--- `appending::key_passes` meets its contract: a key by its kind. Assumes nothing.
+-- `appending::key_passes` meets its contract: a key by its kind.
 use Rattle.bson.specs.Writer.{keyPasses}
 use Rattle.writer_state.specs.Said.{saidKind}
 use Rattle.appending.proofs.key_passes.Statement.{statement}

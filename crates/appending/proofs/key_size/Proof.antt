@@ -1,4 +1,4 @@
--- `appending::key_size` meets its contract: a key by its kind. Assumes nothing.
+-- `appending::key_size` meets its contract: a key by its kind.
 use mathlib.Core.Path.{refl, sym, _∙_}
 use native.Mathlib.Omega.{arith}
 use Rattle.bson.specs.Writer.{keyIn}

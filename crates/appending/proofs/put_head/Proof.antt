@@ -1,4 +1,4 @@
--- `appending::put_head` meets its contract: one text behind the other. Assumes nothing.
+-- `appending::put_head` meets its contract: one text behind the other.
 use Rattle.laws.proofs.OutputLaws.{then-put}
 use borrow.Author.Needs.{needs}
 use Rattle.appending.proofs.put_head.Statement.{statement}

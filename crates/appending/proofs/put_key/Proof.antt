@@ -1,4 +1,4 @@
--- `appending::put_key` meets its contract: a key by its kind. Assumes nothing.
+-- `appending::put_key` meets its contract: a key by its kind.
 use native.Mathlib.Omega.{arith}
 use Rattle.bson.specs.Writer.{keyIn}
 use Rattle.writer_state.specs.Said.{saidKind}

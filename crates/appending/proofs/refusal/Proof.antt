@@ -1,4 +1,4 @@
--- `appending::refusal` meets its contract: each way out by the test that led there. Assumes nothing.
+-- `appending::refusal` meets its contract: each way out by the test that led there.
 use Prim.Native.Nat.{ℕ}
 use mathlib.Core.Path.{sym, ap, _∙_}
 use mathlib.Core.Bool.{Bool, cond}

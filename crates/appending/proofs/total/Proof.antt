@@ -1,4 +1,4 @@
--- `appending::total` meets its contract: no sum is made that could pass the largest number. Assumes nothing.
+-- `appending::total` meets its contract: no sum is made that could pass the largest number.
 use native.Mathlib.Omega.{arith}
 use Rattle.appending.proofs.Runs.{within, over}
 use borrow.Author.Needs.{needs}

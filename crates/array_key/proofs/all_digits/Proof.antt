@@ -1,4 +1,4 @@
--- `array_key::all_digits` meets its contract: the digits passed leave the rest to decide. Assumes nothing.
+-- `array_key::all_digits` meets its contract: the digits passed leave the rest to decide.
 use Prim.Native.Nat.{ℕ, _+_, _-_, _<_, _≤_}
 use mathlib.Core.Path.{_≡_, refl, sym, ap, _∙_}
 use mathlib.Core.List.{List}

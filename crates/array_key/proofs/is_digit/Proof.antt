@@ -1,4 +1,4 @@
--- `array_key::is_digit` meets its contract: both tests at once. Assumes nothing.
+-- `array_key::is_digit` meets its contract: both tests at once.
 use mathlib.Core.Path.{refl}
 use Rattle.array_key.proofs.is_digit.Statement.{statement}
 use Rattle.array_key.proofs.is_digit.Tie as tie

@@ -1,4 +1,4 @@
--- `array_key::is_good` meets its contract: a key of no byte is bad, any other goes by its digits. Assumes nothing.
+-- `array_key::is_good` meets its contract: a key of no byte is bad, any other goes by its digits.
 use Prim.Native.Nat.{ℕ, _<_}
 use mathlib.Core.Path.{_≡_, refl}
 use mathlib.Core.List.{List, [], _∷_}

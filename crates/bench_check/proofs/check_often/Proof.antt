@@ -1,4 +1,4 @@
--- `bench_check::check_often` meets its contract: the turns grow fewer. Assumes nothing.
+-- `bench_check::check_often` meets its contract: the turns grow fewer.
 use borrow.Author.Needs.{needs}
 use Rattle.bench_check.proofs.check_often.Statement.{statement}
 use Rattle.bench_check.proofs.check_often.Tie as tie

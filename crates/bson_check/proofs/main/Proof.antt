@@ -1,4 +1,4 @@
--- `bson_check::main` meets its contract: what was read is a part of the buffer. Assumes nothing.
+-- `bson_check::main` meets its contract: what was read is a part of the buffer.
 use mathlib.Core.Path.{sym}
 use lib.Seq.{length-take-le}
 use native.Mathlib.Omega.{arith}

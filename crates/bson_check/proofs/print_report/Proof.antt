@@ -1,4 +1,4 @@
--- `bson_check::print_report` meets its contract: the report ends within the buffer. Assumes nothing.
+-- `bson_check::print_report` meets its contract: the report ends within the buffer.
 use mathlib.Core.Path.{sym}
 use lib.Seq.{length-take-le}
 use borrow.Author.Needs.{needs}

@@ -1,4 +1,4 @@
--- `bson_check::read_input` meets its contract: what is read lies in the buffer, and each turn reads a byte or more. Assumes nothing.
+-- `bson_check::read_input` meets its contract: what is read lies in the buffer, and each turn reads a byte or more.
 use Prim.Native.Nat.{_-_, _≤_}
 use mathlib.Core.Path.{_≡_}
 use lib.ListN.{length}

@@ -1,4 +1,4 @@
--- `c_answers::no_element` meets its contract: field by field. Assumes nothing.
+-- `c_answers::no_element` meets its contract: field by field.
 use borrow.Author.Needs.{needs}
 use Rattle.encode.proofs.Basic.{boolean-byte}
 use Rattle.c_answers.proofs.no_element.Statement.{statement}

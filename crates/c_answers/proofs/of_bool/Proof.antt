@@ -1,4 +1,4 @@
--- `c_answers::of_bool` meets its contract: its byte. Assumes nothing.
+-- `c_answers::of_bool` meets its contract: its byte.
 use borrow.Author.Needs.{needs}
 use Rattle.encode.proofs.Basic.{boolean-byte}
 use Rattle.c_answers.proofs.of_bool.Statement.{statement}

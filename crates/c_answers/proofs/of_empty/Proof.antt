@@ -1,4 +1,4 @@
--- `c_answers::of_empty` meets its contract: case by case. Assumes nothing.
+-- `c_answers::of_empty` meets its contract: case by case.
 use borrow.Author.Needs.{needs}
 use Rattle.encode.proofs.Basic.{boolean-byte}
 use Rattle.c_answers.proofs.of_empty.Statement.{statement}

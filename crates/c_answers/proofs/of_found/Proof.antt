@@ -1,4 +1,4 @@
--- `c_answers::of_found` meets its contract: case by case. Assumes nothing.
+-- `c_answers::of_found` meets its contract: case by case.
 use borrow.Author.Needs.{needs}
 use Rattle.c_answers.proofs.of_found.Statement.{statement}
 use Rattle.c_answers.proofs.of_found.Tie as tie

@@ -1,4 +1,4 @@
--- `c_answers::of_halves` meets its contract: the sum of both halves fits. Assumes nothing.
+-- `c_answers::of_halves` meets its contract: the sum of both halves fits.
 use mathlib.Core.Path.{refl}
 use borrow.Author.Needs.{needs}
 use Rattle.c_answers.proofs.of_halves.Statement.{statement}

@@ -1,4 +1,4 @@
--- `c_answers::of_int32` meets its contract: the bits of the same number, wide. Assumes nothing.
+-- `c_answers::of_int32` meets its contract: the bits of the same number, wide.
 use Rattle.c_answers.proofs.Wide.{wide-fits, wide-bits}
 use Rattle.c_answers.proofs.of_int32.Statement.{statement}
 use Rattle.c_answers.proofs.of_int32.Tie as tie

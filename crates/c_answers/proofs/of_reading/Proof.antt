@@ -1,4 +1,4 @@
--- `c_answers::of_reading` meets its contract: case by case. Assumes nothing.
+-- `c_answers::of_reading` meets its contract: case by case.
 use borrow.Author.Needs.{needs}
 use Rattle.c_answers.proofs.Read.{value-read}
 use Rattle.c_answers.proofs.of_reading.Statement.{statement}

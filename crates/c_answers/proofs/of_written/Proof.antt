@@ -1,4 +1,4 @@
--- `c_answers::of_written` meets its contract: by whether the number is 0. Assumes nothing.
+-- `c_answers::of_written` meets its contract: by whether the number is 0.
 use borrow.Author.Tests.{ne-eqb}
 use Rattle.c_answers.proofs.of_written.Statement.{statement}
 use Rattle.c_answers.proofs.of_written.Tie as tie

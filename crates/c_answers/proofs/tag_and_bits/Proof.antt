@@ -1,4 +1,4 @@
--- `c_answers::tag_and_bits` meets its contract: case by case. Assumes nothing.
+-- `c_answers::tag_and_bits` meets its contract: case by case.
 use mathlib.Core.Path.{refl}
 use mir.Syntax.{w32, w64}
 use borrow.Author.Needs.{needs}

@@ -1,4 +1,4 @@
--- `cstr::cut` meets its contract: the first bytes and one more, or all where there are no more. Assumes nothing.
+-- `cstr::cut` meets its contract: the first bytes and one more, or all where there are no more.
 use mathlib.Core.Path.{sym}
 use native.Mathlib.Omega.{arith}
 use borrow.Author.Needs.{needs}

@@ -1,4 +1,4 @@
--- `cstr::equal` meets its contract: the bytes passed are equal, and the rest decides. Assumes nothing.
+-- `cstr::equal` meets its contract: the bytes passed are equal, and the rest decides.
 use Prim.Native.Nat.{_-_, _≤_}
 use mathlib.Core.Path.{_≡_, refl, sym, _∙_}
 use lib.ListN.{length, drop}

@@ -1,4 +1,4 @@
--- `cstr::first_zero` meets its contract: the bytes passed are not zero. Assumes nothing.
+-- `cstr::first_zero` meets its contract: the bytes passed are not zero.
 use Prim.Native.Nat.{_+_, _-_, _≤_}
 use mathlib.Core.Path.{_≡_}
 use lib.ListN.{length, drop}

@@ -1,4 +1,4 @@
--- `cstr::is_plain` meets its contract: the bytes passed are plain, and what is left of the text decides. Assumes nothing.
+-- `cstr::is_plain` meets its contract: the bytes passed are plain, and what is left of the text decides.
 use Prim.Native.Nat.{ℕ, _+_, _-_, _≤_}
 use mathlib.Core.Path.{_≡_, sym, ap, _∙_}
 use lib.Dec.{eqb}

@@ -1,4 +1,4 @@
--- `cstr::is_valid_cstr` meets its contract: plain bytes are a key as they stand. Assumes nothing.
+-- `cstr::is_valid_cstr` meets its contract: plain bytes are a key as they stand.
 use Rattle.cstr.proofs.Plain.{plain-valid}
 use Rattle.cstr.proofs.is_valid_cstr.Statement.{statement}
 use Rattle.cstr.proofs.is_valid_cstr.Tie as tie

@@ -1,4 +1,4 @@
--- `cstr::is_valid_mixed` meets its contract: each way out by the test that led there. Assumes nothing.
+-- `cstr::is_valid_mixed` meets its contract: each way out by the test that led there.
 use borrow.Author.Tests.{eq-eqb, ne-eqb}
 use Rattle.bson.specs.Cstring.{validCstr}
 use borrow.Author.Needs.{needs}

@@ -1,4 +1,4 @@
--- `cstr::most_of` meets its contract: the limit itself, but for the largest number. Assumes nothing.
+-- `cstr::most_of` meets its contract: the limit itself, but for the largest number.
 use native.Mathlib.Omega.{arith}
 use borrow.Author.Tests.{eq-eqb, ne-eqb}
 use Rattle.cstr.proofs.most_of.Statement.{statement}

@@ -1,4 +1,4 @@
--- `cstr::number_of` meets its contract: the number that stands for no limit, or another. Assumes nothing.
+-- `cstr::number_of` meets its contract: the number that stands for no limit, or another.
 use borrow.Author.Tests.{eq-eqb, ne-eqb}
 use Rattle.cstr.proofs.number_of.Statement.{statement}
 use Rattle.cstr.proofs.number_of.Tie as tie

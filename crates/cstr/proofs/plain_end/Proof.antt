@@ -1,4 +1,4 @@
--- `cstr::plain_end` meets its contract: the bytes passed are plain, and what is left of the text decides. Assumes nothing.
+-- `cstr::plain_end` meets its contract: the bytes passed are plain, and what is left of the text decides.
 use Prim.Native.Nat.{_+_, _-_, _≤_}
 use mathlib.Core.Path.{_≡_}
 use lib.ListN.{length, drop}

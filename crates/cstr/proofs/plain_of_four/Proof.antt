@@ -1,4 +1,4 @@
--- `cstr::plain_of_four` meets its contract: two bytes, and two more where both pass. Assumes nothing.
+-- `cstr::plain_of_four` meets its contract: two bytes, and two more where both pass.
 use Rattle.cstr.proofs.Plain.{two-and-two}
 use borrow.Author.Needs.{needs}
 use native.Mathlib.Omega.{arith}

@@ -1,4 +1,4 @@
--- `cstr::plain_of_two` meets its contract: each byte that passes is one more. Assumes nothing.
+-- `cstr::plain_of_two` meets its contract: each byte that passes is one more.
 use mathlib.Core.Path.{sym, _∙_}
 use Prim.Native.Nat.{_+_}
 use Rattle.laws.proofs.CstringLaws.{before-here, before-not}

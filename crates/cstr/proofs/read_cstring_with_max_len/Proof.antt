@@ -1,4 +1,4 @@
--- `cstr::read_cstring_with_max_len` meets its contract: plain bytes up to a zero are a text as they stand. Assumes nothing.
+-- `cstr::read_cstring_with_max_len` meets its contract: plain bytes up to a zero are a text as they stand.
 use native.Mathlib.Omega.{arith}
 use Rattle.bson.specs.Cstring.{cstringUnder}
 use Rattle.cstr.proofs.Plain.{plain-found, plain-none}

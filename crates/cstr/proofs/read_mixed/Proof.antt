@@ -1,4 +1,4 @@
--- `cstr::read_mixed` meets its contract: each way out by the tests that led there. Assumes nothing.
+-- `cstr::read_mixed` meets its contract: each way out by the tests that led there.
 use mathlib.Core.Path.{sym}
 use borrow.Author.Tests.{lt-ltb, le-ltb}
 use lib.Seq.{length-take-le}

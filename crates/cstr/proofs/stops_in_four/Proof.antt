@@ -1,4 +1,4 @@
--- `cstr::stops_in_four` meets its contract: each byte as it was told. Assumes nothing.
+-- `cstr::stops_in_four` meets its contract: each byte as it was told.
 use Rattle.cstr.proofs.Plain.{stop-in-four}
 use borrow.Author.Needs.{needs}
 use Rattle.cstr.proofs.stops_in_four.Statement.{statement}

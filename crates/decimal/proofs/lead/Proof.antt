@@ -1,4 +1,4 @@
--- `decimal::lead` meets its contract: at every turn the number is the power, as often as it has gone, and what is left. Assumes nothing.
+-- `decimal::lead` meets its contract: at every turn the number is the power, as often as it has gone, and what is left.
 use Prim.Native.Nat.{_+_, _*_}
 use mathlib.Core.Path.{_≡_}
 use native.Mathlib.Omega.{arith}

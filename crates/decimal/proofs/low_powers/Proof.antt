@@ -1,4 +1,4 @@
--- `decimal::low_powers` meets its contract, by the same test of what it takes from the table. Assumes nothing.
+-- `decimal::low_powers` meets its contract, by the same test of what it takes from the table.
 use mathlib.Core.Path.{refl}
 use borrow.Author.Needs.{needs}
 use Rattle.decimal.proofs.Powers.{computed-powers}

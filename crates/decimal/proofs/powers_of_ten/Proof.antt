@@ -1,4 +1,4 @@
--- `decimal::powers_of_ten` meets its contract, by one computed test of the code's own table. Assumes nothing.
+-- `decimal::powers_of_ten` meets its contract, by one computed test of the code's own table.
 use mathlib.Core.Path.{refl}
 use Rattle.decimal.proofs.Powers.{computed-powers}
 use Rattle.decimal.proofs.powers_of_ten.Statement.{statement}

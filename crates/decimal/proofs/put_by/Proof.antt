@@ -1,4 +1,4 @@
--- `decimal::put_by` meets its contract: what is left to write on the present buffer is the whole on the first. Assumes nothing.
+-- `decimal::put_by` meets its contract: what is left to write on the present buffer is the whole on the first.
 use Prim.Native.Nat.{suc, _+_, _-_, _^_, _<_}
 use mathlib.Core.Path.{_≡_, refl, _∙_}
 use native.Mathlib.Nat.{pow-suc, mul-comm}

@@ -1,4 +1,4 @@
--- `decimal::put_decimal` meets its contract: the digits where they fit, else nothing. Assumes nothing.
+-- `decimal::put_decimal` meets its contract: the digits where they fit, else nothing.
 use Prim.Native.Nat.{ℕ, _+_}
 use mathlib.Core.Path.{_≡_, sym, ap, _∙_}
 use mathlib.Core.List.{List}

@@ -1,4 +1,4 @@
--- `decimal::put_digits` meets its contract: one digit is the number, and more are put by a table that has a power for each. Assumes nothing.
+-- `decimal::put_digits` meets its contract: one digit is the number, and more are put by a table that has a power for each.
 use native.Mathlib.Omega.{arith}
 use borrow.Author.Needs.{needs}
 use Rattle.decimal.proofs.Powers.{one-digit, digit-put}

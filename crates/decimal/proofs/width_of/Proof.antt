@@ -1,4 +1,4 @@
--- `decimal::width_of` meets its contract: at every turn the number has k digits or more. Assumes nothing.
+-- `decimal::width_of` meets its contract: at every turn the number has k digits or more.
 use Prim.Native.Nat.{_-_, _≤_}
 use native.Mathlib.Omega.{arith}
 use borrow.Author.Needs.{needs}

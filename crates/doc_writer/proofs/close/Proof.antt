@@ -1,4 +1,4 @@
--- `doc_writer::close` meets its contract: what the call on lent words leaves. Assumes nothing.
+-- `doc_writer::close` meets its contract: what the call on lent words leaves.
 use Rattle.doc_writer.proofs.close.Statement.{statement}
 use Rattle.doc_writer.proofs.close.Tie as tie
 

@@ -1,4 +1,4 @@
--- `doc_writer::new` meets its contract: the words are the definition. Assumes nothing.
+-- `doc_writer::new` meets its contract: the words are the definition.
 use mathlib.Core.Path.{refl}
 use Rattle.bson.specs.Writer.{fresh}
 use Rattle.doc_writer.proofs.new.Statement.{statement}

@@ -1,4 +1,4 @@
--- `doc_writer::open` meets its contract: what the call on lent words leaves. Assumes nothing.
+-- `doc_writer::open` meets its contract: what the call on lent words leaves.
 use Rattle.doc_writer.proofs.open.Statement.{statement}
 use Rattle.doc_writer.proofs.open.Tie as tie
 

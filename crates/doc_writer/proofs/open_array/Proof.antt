@@ -1,4 +1,4 @@
--- `doc_writer::open_array` meets its contract: what the call on lent words leaves. Assumes nothing.
+-- `doc_writer::open_array` meets its contract: what the call on lent words leaves.
 use Rattle.doc_writer.proofs.open_array.Statement.{statement}
 use Rattle.doc_writer.proofs.open_array.Tie as tie
 

@@ -1,4 +1,4 @@
--- `doc_writer::open_document` meets its contract: what the call on lent words leaves. Assumes nothing.
+-- `doc_writer::open_document` meets its contract: what the call on lent words leaves.
 use Rattle.doc_writer.proofs.open_document.Statement.{statement}
 use Rattle.doc_writer.proofs.open_document.Tie as tie
 

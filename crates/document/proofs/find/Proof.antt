@@ -1,4 +1,4 @@
--- `document::find` meets its contract: the search from each offset is the whole search. Assumes nothing.
+-- `document::find` meets its contract: the search from each offset is the whole search.
 use Prim.Native.Nat.{ℕ, _+_, _-_, _≤_}
 use mathlib.Core.Path.{_≡_, refl, sym, ap, _∙_}
 use mathlib.Core.List.{List}

@@ -1,4 +1,4 @@
--- `document::get_element_under` meets its contract: the element that is found, read. Assumes nothing.
+-- `document::get_element_under` meets its contract: the element that is found, read.
 use mathlib.Core.Path.{sym, _∙_}
 use Rattle.laws.proofs.AnswerLaws.{answered}
 use Rattle.document.specs.Said.{reads}

@@ -1,4 +1,4 @@
--- `document::get_part_under` meets its contract: a part of what its twin finds, else nothing. Assumes nothing.
+-- `document::get_part_under` meets its contract: a part of what its twin finds, else nothing.
 use mathlib.Core.Path.{ap, _∙_}
 use Rattle.bson.specs.Bytes.{bytes}
 use Rattle.bson.specs.Lookup.{getPartUnder}

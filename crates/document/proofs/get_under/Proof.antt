@@ -1,4 +1,4 @@
--- `document::get_under` meets its contract: the framed bytes of what its twin finds, else nothing. Assumes nothing.
+-- `document::get_under` meets its contract: the framed bytes of what its twin finds, else nothing.
 use Rattle.bson.specs.Lookup.{getBytesUnder}
 use Rattle.laws.proofs.AnswerLaws.{answered}
 use Rattle.document.specs.Said.{said}

@@ -1,4 +1,4 @@
--- `document::get_with_under` meets its contract: the element that is found, read, and the test of its tag. Assumes nothing.
+-- `document::get_with_under` meets its contract: the element that is found, read, and the test of its tag.
 use Rattle.bson.specs.Lookup.{getWithUnder}
 use Rattle.laws.proofs.AnswerLaws.{answered}
 use Rattle.document.specs.Said.{reads}

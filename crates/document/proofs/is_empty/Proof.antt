@@ -1,4 +1,4 @@
--- `document::is_empty` meets its contract: what admission gives decides. Assumes nothing.
+-- `document::is_empty` meets its contract: what admission gives decides.
 use Rattle.bson.specs.Lookup.{isEmpty}
 use Rattle.laws.proofs.AnswerLaws.{answered}
 use Rattle.part.specs.Said.{saidLength}

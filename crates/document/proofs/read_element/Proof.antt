@@ -1,4 +1,4 @@
--- `document::read_element` meets its contract: what reading the value answers decides. Assumes nothing.
+-- `document::read_element` meets its contract: what reading the value answers decides.
 use Rattle.bson.specs.Lookup.{found}
 use Rattle.laws.proofs.AnswerLaws.{answered}
 use Rattle.reading.specs.Said as reading

@@ -1,4 +1,4 @@
--- `document::read_element_with` meets its contract: what is read, then the test of its tag. Assumes nothing.
+-- `document::read_element_with` meets its contract: what is read, then the test of its tag.
 use borrow.Author.Tests.{eq-eqb, ne-eqb}
 use Rattle.laws.proofs.AnswerLaws.{answered}
 use Rattle.document.specs.Said.{said}

@@ -1,4 +1,4 @@
--- `encode::bits32` meets its contract, by the laws of every width at 32. Assumes nothing.
+-- `encode::bits32` meets its contract, by the laws of every width at 32.
 use mathlib.Core.Path.{refl}
 use mir.Syntax.{w32}
 use Rattle.encode.proofs.Unsigned.{positive-casts, positive-stays, negative-fits, negative-casts, negative-below, negative-down}

@@ -1,4 +1,4 @@
--- `encode::bits64` meets its contract, by the laws of every width at 64. Assumes nothing.
+-- `encode::bits64` meets its contract, by the laws of every width at 64.
 use mathlib.Core.Path.{refl}
 use mir.Syntax.{w64}
 use Rattle.encode.proofs.Unsigned.{positive-casts, positive-stays, negative-fits, negative-casts, negative-below, negative-down}

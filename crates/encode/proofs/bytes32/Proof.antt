@@ -1,4 +1,4 @@
--- `encode::bytes32` meets its contract: the bytes are the definition. Assumes nothing.
+-- `encode::bytes32` meets its contract: the bytes are the definition.
 use mathlib.Core.Path.{refl}
 use Rattle.bson.specs.Grammar.{bytes32}
 use borrow.Author.Needs.{needs}

@@ -1,4 +1,4 @@
--- `encode::put_bytes32` meets its contract: the text is the four bytes. Assumes nothing.
+-- `encode::put_bytes32` meets its contract: the text is the four bytes.
 use mathlib.Core.Path.{ap, _∙_}
 use mathlib.Core.List.{List}
 use Prim.Native.Nat.{ℕ}

@@ -1,4 +1,4 @@
--- `fringewell::fringewell_append_datetime` meets its contract: the call, then its numbers. Assumes nothing.
+-- `fringewell::fringewell_append_datetime` meets its contract: the call, then its numbers.
 use lib.IntN.{ℤ}
 use mir.Syntax.{w64}
 use Rattle.bson.specs.Value.{dateTime}

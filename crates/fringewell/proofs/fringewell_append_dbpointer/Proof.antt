@@ -1,4 +1,4 @@
--- `fringewell::fringewell_append_dbpointer` meets its contract: the call, then its numbers. Assumes nothing.
+-- `fringewell::fringewell_append_dbpointer` meets its contract: the call, then its numbers.
 use Rattle.fringewell.proofs.Through.{performed-through}
 use Rattle.fringewell.proofs.fringewell_append_dbpointer.Statement.{statement}
 use Rattle.fringewell.proofs.fringewell_append_dbpointer.Tie as tie

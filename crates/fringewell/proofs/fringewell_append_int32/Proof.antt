@@ -1,4 +1,4 @@
--- `fringewell::fringewell_append_int32` meets its contract: the call, then its numbers. Assumes nothing.
+-- `fringewell::fringewell_append_int32` meets its contract: the call, then its numbers.
 use lib.IntN.{ℤ}
 use mir.Syntax.{w32}
 use Rattle.bson.specs.Value.{int32}

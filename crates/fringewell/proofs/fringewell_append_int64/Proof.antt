@@ -1,4 +1,4 @@
--- `fringewell::fringewell_append_int64` meets its contract: the call, then its numbers. Assumes nothing.
+-- `fringewell::fringewell_append_int64` meets its contract: the call, then its numbers.
 use lib.IntN.{ℤ}
 use mir.Syntax.{w64}
 use Rattle.bson.specs.Value.{int64}

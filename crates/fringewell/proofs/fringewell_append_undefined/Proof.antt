@@ -1,4 +1,4 @@
--- `fringewell::fringewell_append_undefined` meets its contract: the call, then its numbers. Assumes nothing.
+-- `fringewell::fringewell_append_undefined` meets its contract: the call, then its numbers.
 use Rattle.fringewell.proofs.Through.{performed-through}
 use Rattle.fringewell.proofs.fringewell_append_undefined.Statement.{statement}
 use Rattle.fringewell.proofs.fringewell_append_undefined.Tie as tie

@@ -1,4 +1,4 @@
--- `fringewell::fringewell_check_strict` meets its contract: the call, then its numbers. Assumes nothing.
+-- `fringewell::fringewell_check_strict` meets its contract: the call, then its numbers.
 use Rattle.c_answers.specs.Numbers.{verdict}
 use Rattle.fringewell.proofs.Through.{through}
 use Rattle.fringewell.proofs.fringewell_check_strict.Statement.{statement}

@@ -1,4 +1,4 @@
--- `fringewell::fringewell_check_strict_under` meets its contract: the number for the limit, the call, then its numbers. Assumes nothing.
+-- `fringewell::fringewell_check_strict_under` meets its contract: the number for the limit, the call, then its numbers.
 use mathlib.Core.Path.{_∙_}
 use native.Mathlib.Omega.{arith}
 use Rattle.c_answers.specs.Numbers.{verdict}

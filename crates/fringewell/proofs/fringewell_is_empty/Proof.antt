@@ -1,4 +1,4 @@
--- `fringewell::fringewell_is_empty` meets its contract: the call, then its numbers. Assumes nothing.
+-- `fringewell::fringewell_is_empty` meets its contract: the call, then its numbers.
 use Rattle.c_answers.specs.Numbers.{emptiness}
 use Rattle.fringewell.proofs.Through.{through}
 use Rattle.fringewell.proofs.fringewell_is_empty.Statement.{statement}

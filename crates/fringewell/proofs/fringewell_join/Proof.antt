@@ -1,4 +1,4 @@
--- `fringewell::fringewell_join` meets its contract: the join, then its numbers. Assumes nothing.
+-- `fringewell::fringewell_join` meets its contract: the join, then its numbers.
 use Rattle.fringewell.proofs.Through.{join-through}
 use Rattle.fringewell.proofs.fringewell_join.Statement.{statement}
 use Rattle.fringewell.proofs.fringewell_join.Tie as tie

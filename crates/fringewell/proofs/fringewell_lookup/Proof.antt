@@ -1,4 +1,4 @@
--- `fringewell::fringewell_lookup` meets its contract: the call, then its numbers. Assumes nothing.
+-- `fringewell::fringewell_lookup` meets its contract: the call, then its numbers.
 use Rattle.c_answers.specs.Numbers.{found}
 use Rattle.fringewell.proofs.Through.{through}
 use Rattle.fringewell.proofs.fringewell_lookup.Statement.{statement}

@@ -1,4 +1,4 @@
--- `fringewell::fringewell_lookup_typed_under` meets its contract: the number for the limit, the call, then its numbers. Assumes nothing.
+-- `fringewell::fringewell_lookup_typed_under` meets its contract: the number for the limit, the call, then its numbers.
 use mathlib.Core.Path.{_∙_}
 use native.Mathlib.Omega.{arith}
 use Rattle.c_answers.specs.Numbers.{found}

@@ -1,4 +1,4 @@
--- `fringewell::fringewell_step` meets its contract: the step, then its numbers. Assumes nothing.
+-- `fringewell::fringewell_step` meets its contract: the step, then its numbers.
 use Rattle.bson.specs.Cstring.{unlimited}
 use Rattle.bson.specs.Step.{cursor}
 use Rattle.fringewell.proofs.Through.{step-through}

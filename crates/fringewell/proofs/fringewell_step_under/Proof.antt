@@ -1,4 +1,4 @@
--- `fringewell::fringewell_step_under` meets its contract: the number for the limit, the step, then its numbers. Assumes nothing.
+-- `fringewell::fringewell_step_under` meets its contract: the number for the limit, the step, then its numbers.
 use mathlib.Core.Path.{_∙_}
 use native.Mathlib.Omega.{arith}
 use Rattle.bson.specs.Step.{cursor}

@@ -1,4 +1,4 @@
--- `fringewell::fringewell_value_of` meets its contract: the call, then its numbers. Assumes nothing.
+-- `fringewell::fringewell_value_of` meets its contract: the call, then its numbers.
 use Rattle.c_answers.specs.Numbers.{valueRead}
 use Rattle.fringewell.proofs.Through.{through}
 use Rattle.fringewell.proofs.fringewell_value_of.Statement.{statement}

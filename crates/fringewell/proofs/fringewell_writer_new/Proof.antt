@@ -1,4 +1,4 @@
--- `fringewell::fringewell_writer_new` meets its contract: the words are the definition. Assumes nothing.
+-- `fringewell::fringewell_writer_new` meets its contract: the words are the definition.
 use mathlib.Core.Path.{refl}
 use Rattle.bson.specs.Writer.{fresh}
 use Rattle.fringewell.proofs.fringewell_writer_new.Statement.{statement}

@@ -1,4 +1,4 @@
--- `fringewell::fringewell_writer_open_document` meets its contract: the call, then its numbers. Assumes nothing.
+-- `fringewell::fringewell_writer_open_document` meets its contract: the call, then its numbers.
 use Rattle.fringewell.proofs.Through.{performed-through}
 use Rattle.fringewell.proofs.fringewell_writer_open_document.Statement.{statement}
 use Rattle.fringewell.proofs.fringewell_writer_open_document.Tie as tie

@@ -1,4 +1,4 @@
--- `iter::advance` meets its contract: the element of the sizes, and the cursor behind it. Assumes nothing.
+-- `iter::advance` meets its contract: the element of the sizes, and the cursor behind it.
 use mathlib.Core.Path.{refl}
 use Rattle.laws.proofs.AnswerLaws.{answered}
 use Rattle.laws.proofs.StepLaws.{step-yields}

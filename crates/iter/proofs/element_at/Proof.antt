@@ -1,4 +1,4 @@
--- `iter::element_at` meets its contract: the key, then the value in the rest behind its zero. Assumes nothing.
+-- `iter::element_at` meets its contract: the key, then the value in the rest behind its zero.
 use Prim.Native.Nat.{ℕ, _+_, _-_, _<_}
 use mathlib.Core.Path.{_≡_, ap, sym, _∙_}
 use mathlib.Core.List.{List}

@@ -1,4 +1,4 @@
--- `iter::key_at_under` meets its contract: the key of what the step yields, else nothing. Assumes nothing.
+-- `iter::key_at_under` meets its contract: the key of what the step yields, else nothing.
 use Rattle.bson.specs.Step.{keyAtUnder}
 use Rattle.laws.proofs.AnswerLaws.{answered}
 use Rattle.iter.specs.Said.{said}

@@ -1,4 +1,4 @@
--- `iter::next_under` meets its contract: the mark decides. Assumes nothing.
+-- `iter::next_under` meets its contract: the mark decides.
 use Rattle.iter.proofs.next_under.Statement.{statement}
 use Rattle.iter.proofs.next_under.Tie as tie
 

@@ -1,4 +1,4 @@
--- `iter::sizes_at` meets its contract: each test, and the law of the step that it leads to. Assumes nothing.
+-- `iter::sizes_at` meets its contract: each test, and the law of the step that it leads to.
 use Prim.Native.Nat.{ℕ, _-_, _≤_, _<_}
 use mathlib.Core.Path.{_≡_, sym, ap, _∙_}
 use mathlib.Core.List.{List}

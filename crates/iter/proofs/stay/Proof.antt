@@ -1,4 +1,4 @@
--- `iter::stay` meets its contract: admission, then the end. Assumes nothing.
+-- `iter::stay` meets its contract: admission, then the end.
 use mathlib.Core.Path.{refl}
 use Rattle.laws.proofs.AnswerLaws.{answered}
 use Rattle.laws.proofs.AdvanceLaws.{step-unadmitted, step-ended}

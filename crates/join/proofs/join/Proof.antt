@@ -1,4 +1,4 @@
--- `join::join` meets its contract: the refusals of both checks, then what `put_both` answers. Assumes nothing.
+-- `join::join` meets its contract: the refusals of both checks, then what `put_both` answers.
 use mathlib.Core.Bool.{false}
 use borrow.Author.Needs.{needs}
 use Rattle.laws.proofs.AnswerLaws.{answered}

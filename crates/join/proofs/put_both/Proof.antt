@@ -1,4 +1,4 @@
--- `join::put_both` meets its contract: the room tested, then four texts one after the other. Assumes nothing.
+-- `join::put_both` meets its contract: the room tested, then four texts one after the other.
 use mathlib.Core.Path.{_∙_}
 use borrow.Author.Needs.{needs}
 use Rattle.join.proofs.Bodies.{no-room, has-room}

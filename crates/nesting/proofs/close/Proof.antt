@@ -1,4 +1,4 @@
--- `nesting::close` meets its contract: refused as the innermost is, or ended. Assumes nothing.
+-- `nesting::close` meets its contract: refused as the innermost is, or ended.
 use native.Mathlib.Omega.{arith}
 use Rattle.laws.proofs.AnswerLaws.{answered}
 use Rattle.writer_state.specs.Said.{said}

@@ -1,4 +1,4 @@
--- `nesting::open_array` meets its contract: the tag and the mark of an array. Assumes nothing.
+-- `nesting::open_array` meets its contract: the tag and the mark of an array.
 use Rattle.bson.specs.Writer.{openedIn, answer, performed}
 use Rattle.nesting.specs.Opened.{openedAs}
 use Rattle.nesting.proofs.open_array.Statement.{statement}

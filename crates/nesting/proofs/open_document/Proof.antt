@@ -1,4 +1,4 @@
--- `nesting::open_document` meets its contract: the tag and the mark of a document. Assumes nothing.
+-- `nesting::open_document` meets its contract: the tag and the mark of a document.
 use Rattle.bson.specs.Writer.{openedIn, answer, performed}
 use Rattle.nesting.specs.Opened.{openedAs}
 use Rattle.nesting.proofs.open_document.Statement.{statement}

@@ -1,4 +1,4 @@
--- `nesting::open_in` meets its contract: refused as its head is, or its length behind it and one document more open. Assumes nothing.
+-- `nesting::open_in` meets its contract: refused as its head is, or its length behind it and one document more open.
 use mathlib.Core.Path.{refl, sym}
 use mathlib.Core.List.{[], _∷_, append-nil}
 use Rattle.laws.proofs.GrammarLaws.{length-bytes32}

@@ -1,4 +1,4 @@
--- `nesting::open_top` meets its contract: each way out by the test that led there. Assumes nothing.
+-- `nesting::open_top` meets its contract: each way out by the test that led there.
 use mathlib.Core.Path.{refl}
 use lib.Dec.{lit<}
 use Rattle.bson.specs.Grammar.{bytes32}

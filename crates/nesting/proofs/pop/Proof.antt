@@ -1,4 +1,4 @@
--- `nesting::pop` meets its contract: the stores are the definition. Assumes nothing.
+-- `nesting::pop` meets its contract: the stores are the definition.
 use mathlib.Core.Path.{refl}
 use native.Mathlib.Omega.{arith}
 use lib.Dec.{lit<}

@@ -1,4 +1,4 @@
--- `nesting::push` meets its contract: the stores are the definition. Assumes nothing.
+-- `nesting::push` meets its contract: the stores are the definition.
 use native.Mathlib.Omega.{arith}
 use lib.Dec.{lit<}
 use Rattle.nesting.specs.Opened.{pushedAt}

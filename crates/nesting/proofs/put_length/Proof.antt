@@ -1,4 +1,4 @@
--- `nesting::put_length` meets its contract: the bytes fit. Assumes nothing.
+-- `nesting::put_length` meets its contract: the bytes fit.
 use mathlib.Core.Path.{_≡_, ap, _∙_}
 use native.Mathlib.Omega.{arith}
 use lib.ListN.{length}

@@ -1,4 +1,4 @@
--- `nesting::seal` meets its contract: the zero fits, and then the length. Assumes nothing.
+-- `nesting::seal` meets its contract: the zero fits, and then the length.
 use mathlib.Core.Path.{ap, _∙_, refl}
 use Prim.Native.Nat.{ℕ, _+_, _-_}
 use mathlib.Core.List.{List, [], _∷_}

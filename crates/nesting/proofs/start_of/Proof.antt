@@ -1,4 +1,4 @@
--- `nesting::start_of` meets its contract: the word is the definition's. Assumes nothing.
+-- `nesting::start_of` meets its contract: the word is the definition's.
 use mathlib.Core.Path.{_∙_, ap}
 use Prim.Native.Nat.{ℕ, _+_, _*_, _-_}
 use native.Mathlib.Omega.{arith}

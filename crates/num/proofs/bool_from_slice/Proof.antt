@@ -1,4 +1,4 @@
--- `num::bool_from_slice` meets its contract: each way out by the tests that led there. Assumes nothing.
+-- `num::bool_from_slice` meets its contract: each way out by the tests that led there.
 use borrow.Author.Tests.{le-leb, lt-leb}
 use Rattle.bson.specs.Framing.{fits}
 use Rattle.bson.specs.Value.{bool}

@@ -1,4 +1,4 @@
--- `num::double_word` meets its contract: the upper half is the word at the rest from 4. Assumes nothing.
+-- `num::double_word` meets its contract: the upper half is the word at the rest from 4.
 use native.Mathlib.Omega.{arith}
 use mathlib.Core.Path.{_≡_, ap, _∙_}
 use lib.ListN.{drop}

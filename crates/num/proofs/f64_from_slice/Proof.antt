@@ -1,4 +1,4 @@
--- `num::f64_from_slice` meets its contract: each way out by the test that led there. Assumes nothing.
+-- `num::f64_from_slice` meets its contract: each way out by the test that led there.
 use borrow.Author.Tests.{le-leb, lt-leb}
 use Rattle.bson.specs.Framing.{fits}
 use borrow.Author.Needs.{needs}

@@ -1,4 +1,4 @@
--- `num::i32_from_slice` meets its contract: each way out by the test that led there. Assumes nothing.
+-- `num::i32_from_slice` meets its contract: each way out by the test that led there.
 use borrow.Author.Tests.{le-leb, lt-leb}
 use mir.Syntax.{w32}
 use mir.ValLaws.{toZ-ofZ}

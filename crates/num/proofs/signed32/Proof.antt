@@ -1,4 +1,4 @@
--- `num::signed32` meets its contract, by the law of every width at 32. Assumes nothing.
+-- `num::signed32` meets its contract, by the law of every width at 32.
 use mathlib.Core.Path.{refl}
 use native.Mathlib.Omega.{arith}
 use Prim.Native.Nat.{_-_}

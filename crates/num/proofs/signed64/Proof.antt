@@ -1,4 +1,4 @@
--- `num::signed64` meets its contract, by the law of every width at 64. Assumes nothing.
+-- `num::signed64` meets its contract, by the law of every width at 64.
 use mathlib.Core.Path.{refl}
 use native.Mathlib.Omega.{arith}
 use Prim.Native.Nat.{_-_}

@@ -1,4 +1,4 @@
--- `num::timestamp_from_slice` meets its contract: two words, or too few bytes for one of them. Assumes nothing.
+-- `num::timestamp_from_slice` meets its contract: two words, or too few bytes for one of them.
 use Prim.Native.Nat.{ℕ, _<_, _≤_}
 use mathlib.Core.Path.{_≡_, ap, _∙_}
 use mathlib.Core.List.{List}

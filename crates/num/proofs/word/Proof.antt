@@ -1,4 +1,4 @@
--- `num::word` meets its contract: a sum of four bytes, each below 256, is below 2³². Assumes nothing.
+-- `num::word` meets its contract: a sum of four bytes, each below 256, is below 2³².
 use native.Mathlib.Omega.{arith}
 use Rattle.bson.specs.Bytes.{le32}
 use borrow.Author.Needs.{needs}

@@ -1,4 +1,4 @@
--- `output::copy` meets its contract: short and long texts are put alike. Assumes nothing.
+-- `output::copy` meets its contract: short and long texts are put alike.
 use borrow.Author.Needs.{needs}
 use Rattle.output.proofs.copy.Statement.{statement}
 use Rattle.output.proofs.copy.Tie as tie

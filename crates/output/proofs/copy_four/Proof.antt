@@ -1,4 +1,4 @@
--- `output::copy_four` meets its contract: four stores are a run of four. Assumes nothing.
+-- `output::copy_four` meets its contract: four stores are a run of four.
 use native.Mathlib.Omega.{arith}
 use lib.ListN.{length-set}
 use Rattle.output.proofs.Runs.{four-stored}

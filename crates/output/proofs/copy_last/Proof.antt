@@ -1,4 +1,4 @@
--- `output::copy_last` meets its contract: one byte is left, or none. Assumes nothing.
+-- `output::copy_last` meets its contract: one byte is left, or none.
 use native.Mathlib.Omega.{arith}
 use Rattle.output.proofs.Runs.{one-stored, none-stored}
 use borrow.Author.Needs.{needs}

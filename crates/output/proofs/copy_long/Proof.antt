@@ -1,4 +1,4 @@
--- `output::copy_long` meets its contract: after each turn one byte more of the text is pasted. Assumes nothing.
+-- `output::copy_long` meets its contract: after each turn one byte more of the text is pasted.
 use Prim.Native.Nat.{ℕ, _+_, _-_, _≤_, _<_}
 use mathlib.Core.Path.{_≡_, refl, sym, ap, _∙_}
 use mathlib.Core.List.{List}

@@ -1,4 +1,4 @@
--- `output::copy_rest` meets its contract: two bytes and the last, or the last alone. Assumes nothing.
+-- `output::copy_rest` meets its contract: two bytes and the last, or the last alone.
 use native.Mathlib.Omega.{arith}
 use Rattle.output.proofs.Runs.{then-last}
 use borrow.Author.Needs.{needs}

@@ -1,4 +1,4 @@
--- `output::copy_short` meets its contract: after each turn four bytes more of the text are put. Assumes nothing.
+-- `output::copy_short` meets its contract: after each turn four bytes more of the text are put.
 use Prim.Native.Nat.{ℕ, _+_, _-_, _≤_}
 use mathlib.Core.Path.{_≡_, refl, sym, ap, _∙_}
 use mathlib.Core.List.{List}

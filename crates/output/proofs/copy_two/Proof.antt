@@ -1,4 +1,4 @@
--- `output::copy_two` meets its contract: two stores are a run of two. Assumes nothing.
+-- `output::copy_two` meets its contract: two stores are a run of two.
 use native.Mathlib.Omega.{arith}
 use lib.ListN.{length-set}
 use Rattle.output.proofs.Runs.{two-stored}

@@ -1,4 +1,4 @@
--- `output::fits` meets its contract: no sum is made that could pass the largest number. Assumes nothing.
+-- `output::fits` meets its contract: no sum is made that could pass the largest number.
 use Prim.Native.Nat.{ℕ, _+_, _-_, _≤_, _<_}
 use mathlib.Core.Path.{_≡_, sym, _∙_}
 use mathlib.Core.Bool.{false}

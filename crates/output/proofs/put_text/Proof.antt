@@ -1,4 +1,4 @@
--- `output::put_text` meets its contract: the copy where the text fits, else nothing. Assumes nothing.
+-- `output::put_text` meets its contract: the copy where the text fits, else nothing.
 use Prim.Native.Nat.{_+_}
 use mathlib.Core.Path.{refl, sym, _∙_}
 use native.Mathlib.Omega.{arith}

@@ -1,4 +1,4 @@
--- `part::byte_or_zero` meets its contract: behind the end a list's default stands. Assumes nothing.
+-- `part::byte_or_zero` meets its contract: behind the end a list's default stands.
 use mathlib.Core.Path.{sym}
 use native.Mathlib.Omega.{arith}
 use borrow.Author.Needs.{needs}

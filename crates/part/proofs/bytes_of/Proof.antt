@@ -1,4 +1,4 @@
--- `part::bytes_of` meets its contract: the rest from the offset on, and of it so many bytes. Assumes nothing.
+-- `part::bytes_of` meets its contract: the rest from the offset on, and of it so many bytes.
 use Prim.Native.Nat.{_≤_}
 use mathlib.Core.Path.{sym}
 use lib.ListN.{length, drop, drop-of-length-le, length-drop}

@@ -1,4 +1,4 @@
--- `raw::admit` meets its contract: each way out by the tests that led there. Assumes nothing.
+-- `raw::admit` meets its contract: each way out by the tests that led there.
 use borrow.Author.Tests.{le-leb, lt-leb, lt-ltb, le-ltb, eq-eqb, ne-eqb}
 use lib.ListN.{length}
 use Rattle.bson.specs.Bytes.{le32}

@@ -1,4 +1,4 @@
--- `raw::binary_len` meets its contract: what the length field gives decides. Assumes nothing.
+-- `raw::binary_len` meets its contract: what the length field gives decides.
 use Rattle.bson.specs.Framing.{binarySize}
 use Rattle.part.specs.Said.{saidLength}
 use Rattle.laws.proofs.FramingLaws.{length-field-is}

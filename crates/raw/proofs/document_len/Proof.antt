@@ -1,4 +1,4 @@
--- `raw::document_len` meets its contract: what the length field gives decides. Assumes nothing.
+-- `raw::document_len` meets its contract: what the length field gives decides.
 use Rattle.bson.specs.Framing.{documentSize}
 use Rattle.part.specs.Said.{saidLength}
 use Rattle.laws.proofs.FramingLaws.{length-field-is}

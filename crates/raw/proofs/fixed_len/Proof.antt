@@ -1,4 +1,4 @@
--- `raw::fixed_len` meets its contract: each way out by the test that led there. Assumes nothing.
+-- `raw::fixed_len` meets its contract: each way out by the test that led there.
 use borrow.Author.Tests.{le-leb, lt-leb}
 use Rattle.bson.specs.Framing.{fits}
 use Rattle.raw.proofs.fixed_len.Statement.{statement}

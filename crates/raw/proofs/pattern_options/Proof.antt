@@ -1,4 +1,4 @@
--- `raw::pattern_options` meets its contract: the pattern, then the options in the rest of the part. Assumes nothing.
+-- `raw::pattern_options` meets its contract: the pattern, then the options in the rest of the part.
 use Prim.Native.Nat.{ℕ, _+_, _-_}
 use mathlib.Core.Path.{_≡_, ap}
 use mathlib.Core.List.{List}

@@ -1,4 +1,4 @@
--- `raw::pointer_len` meets its contract: what the length field gives decides. Assumes nothing.
+-- `raw::pointer_len` meets its contract: what the length field gives decides.
 use Rattle.bson.specs.Framing.{pointerSize}
 use Rattle.part.specs.Said.{saidLength}
 use Rattle.laws.proofs.FramingLaws.{string-is}

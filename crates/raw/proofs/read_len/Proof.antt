@@ -1,4 +1,4 @@
--- `raw::read_len` meets its contract: what the length field gives decides. Assumes nothing.
+-- `raw::read_len` meets its contract: what the length field gives decides.
 use Rattle.bson.specs.Framing.{stringSize}
 use Rattle.part.specs.Said.{saidLength}
 use Rattle.laws.proofs.FramingLaws.{length-field-is}

@@ -1,4 +1,4 @@
--- `raw::regex_len` meets its contract: the pattern and the options, each with a zero behind it. Assumes nothing.
+-- `raw::regex_len` meets its contract: the pattern and the options, each with a zero behind it.
 use Rattle.bson.specs.Framing.{regexSizeUnder}
 use Rattle.laws.proofs.FramingLaws.{pattern-options-fit, pattern-options-under}
 use Rattle.laws.proofs.AnswerLaws.{answered}

@@ -1,4 +1,4 @@
--- `raw::scope_len` meets its contract: what the length field gives decides. Assumes nothing.
+-- `raw::scope_len` meets its contract: what the length field gives decides.
 use Rattle.bson.specs.Framing.{scopeSize}
 use Rattle.part.specs.Said.{saidLength}
 use Rattle.laws.proofs.AnswerLaws.{answered}

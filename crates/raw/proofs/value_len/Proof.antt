@@ -1,4 +1,4 @@
--- `raw::value_len` meets its contract: the row of the tag says which leaf answers. Assumes nothing.
+-- `raw::value_len` meets its contract: the row of the tag says which leaf answers.
 use mathlib.Core.Path.{sym, _∙_}
 use Rattle.bson.specs.Framing.{framedUnder, valueSizeUnder}
 use Rattle.laws.proofs.AnswerLaws.{answered, then-from}

@@ -1,4 +1,4 @@
--- `raw::zero_ended_len` meets its contract: what fits has a last byte, which decides. Assumes nothing.
+-- `raw::zero_ended_len` meets its contract: what fits has a last byte, which decides.
 use borrow.Author.Tests.{eq-eqb, ne-eqb}
 use Rattle.bson.specs.Framing.{zeroEnded}
 use Rattle.laws.proofs.FramingLaws.{fits-is}

@@ -1,4 +1,4 @@
--- `reader::moved` meets its contract: a reader is made of the slice that the one passed holds, and of the cursor's fields. Assumes nothing.
+-- `reader::moved` meets its contract: a reader is made of the slice that the one passed holds, and of the cursor's fields.
 use mathlib.Core.Path.{refl}
 use mathlib.Core.List.{[], _∷_}
 use Prim.Native.Nat.{_<_, _^_}

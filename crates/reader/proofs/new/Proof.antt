@@ -1,4 +1,4 @@
--- `reader::new` meets its contract: a reader is made of the slice passed, which is had twice. Assumes nothing.
+-- `reader::new` meets its contract: a reader is made of the slice passed, which is had twice.
 use mathlib.Core.Path.{refl}
 use Prim.Native.Nat.{ℕ}
 use mathlib.Core.List.{List, [], _∷_}

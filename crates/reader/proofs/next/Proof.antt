@@ -1,4 +1,4 @@
--- `reader::next` meets its contract: the reader is taken apart, and `step_from` is called with its fields. Assumes nothing.
+-- `reader::next` meets its contract: the reader is taken apart, and `step_from` is called with its fields.
 use mathlib.Core.Path.{refl}
 use Prim.Native.Nat.{_<_, _^_}
 use mathlib.Core.List.{[], _∷_}

@@ -1,4 +1,4 @@
--- `reader::offset` meets its contract: a number is read from a field. Assumes nothing.
+-- `reader::offset` meets its contract: a number is read from a field.
 use mathlib.Core.Path.{refl}
 use Prim.Native.Nat.{_<_, _^_}
 use mathlib.Core.List.{[], _∷_}

@@ -1,4 +1,4 @@
--- `reader::step_at` meets its contract: a reader is made, moved and stepped, each by a call. Assumes nothing.
+-- `reader::step_at` meets its contract: a reader is made, moved and stepped, each by a call.
 use mathlib.Core.Path.{_≡_, refl, ap, subst, _∙_}
 use Prim.Native.Nat.{ℕ}
 use mathlib.Core.List.{List, [], _∷_}

@@ -1,4 +1,4 @@
--- `reader::step_from` meets its contract: the promise of `iter::next`, at the cursor made. Assumes nothing.
+-- `reader::step_from` meets its contract: the promise of `iter::next`, at the cursor made.
 use borrow.Author.Needs.{needs}
 use Rattle.reader.proofs.step_from.Statement.{statement}
 use Rattle.reader.proofs.step_from.Tie as tie

@@ -1,4 +1,4 @@
--- `reading::locate` meets its contract: the element that the step there yields. Assumes nothing.
+-- `reading::locate` meets its contract: the element that the step there yields.
 use Rattle.bson.specs.Value.{elementAtUnder}
 use Rattle.laws.proofs.AnswerLaws.{answered}
 use Rattle.iter.specs.Said as step

@@ -1,4 +1,4 @@
--- `reading::part_at_under` meets its contract: a part of what its twin reads, else nothing. Assumes nothing.
+-- `reading::part_at_under` meets its contract: a part of what its twin reads, else nothing.
 use mathlib.Core.Path.{ap, _∙_, refl}
 use Rattle.bson.specs.Bytes.{bytes}
 use Rattle.bson.specs.Value.{partAtUnder}

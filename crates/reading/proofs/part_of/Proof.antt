@@ -1,4 +1,4 @@
--- `reading::part_of` meets its contract: the one of the two parts that is asked for. Assumes nothing.
+-- `reading::part_of` meets its contract: the one of the two parts that is asked for.
 use mathlib.Core.Path.{ap}
 use Rattle.bson.specs.Bytes.{Part}
 use Rattle.reading.proofs.part_of.Statement.{statement}

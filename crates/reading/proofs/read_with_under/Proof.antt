@@ -1,4 +1,4 @@
--- `reading::read_with_under` meets its contract: the element at the place, then its value. Assumes nothing.
+-- `reading::read_with_under` meets its contract: the element at the place, then its value.
 use Rattle.bson.specs.Value.{readWithUnder}
 use Rattle.laws.proofs.AnswerLaws.{answered}
 use Rattle.reading.specs.Said.{saidLocated}

@@ -1,4 +1,4 @@
--- `reading::value_of` meets its contract: what the value's part holds, at the element's place. Assumes nothing.
+-- `reading::value_of` meets its contract: what the value's part holds, at the element's place.
 use Rattle.bson.specs.Value.{valueOf}
 use Rattle.laws.proofs.AnswerLaws.{answered}
 use Rattle.value.specs.Said as parsed

@@ -1,4 +1,4 @@
--- `reading::value_with` meets its contract: the value, then the test of its tag. Assumes nothing.
+-- `reading::value_with` meets its contract: the value, then the test of its tag.
 use borrow.Author.Tests.{eq-eqb, ne-eqb}
 use Rattle.laws.proofs.AnswerLaws.{answered}
 use Rattle.reading.specs.Said.{said}

@@ -1,4 +1,4 @@
--- `report::hex_digit` meets its contract: the test is that of the definition. Assumes nothing.
+-- `report::hex_digit` meets its contract: the test is that of the definition.
 use native.Mathlib.Omega.{arith}
 use borrow.Author.Tests.{lt-ltb, le-ltb}
 use borrow.Author.Needs.{needs}

@@ -1,4 +1,4 @@
--- `report::put_accepted` meets its contract: word, count and newline where the line fits, else nothing. Assumes nothing.
+-- `report::put_accepted` meets its contract: word, count and newline where the line fits, else nothing.
 use mathlib.Core.Path.{sym, _∙_}
 use Rattle.laws.proofs.OutputLaws.{text-left, then-put}
 use Rattle.report.proofs.Lines.{accepted-size, accepted-put}

@@ -1,4 +1,4 @@
--- `report::put_elements` meets its contract: the lines from each offset on the present buffer are all on the first. Assumes nothing.
+-- `report::put_elements` meets its contract: the lines from each offset on the present buffer are all on the first.
 use Prim.Native.Nat.{_-_}
 use mathlib.Core.Path.{_≡_, refl, ap, sym, _∙_}
 use native.Mathlib.Omega.{arith}

@@ -1,4 +1,4 @@
--- `report::put_report` meets its contract: header, element lines and verdict, or header and 20. Assumes nothing.
+-- `report::put_report` meets its contract: header, element lines and verdict, or header and 20.
 use mathlib.Core.Path.{ap, _∙_}
 use Rattle.bson.specs.Output.{Output}
 use Rattle.bson.specs.Report.{header}

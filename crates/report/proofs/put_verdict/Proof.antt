@@ -1,4 +1,4 @@
--- `report::put_verdict` meets its contract: the line of the case that the verdict is. Assumes nothing.
+-- `report::put_verdict` meets its contract: the line of the case that the verdict is.
 use native.Mathlib.Omega.{arith}
 use borrow.Author.Needs.{needs}
 use Rattle.report.proofs.Fits.{accepted-short, refused-short}

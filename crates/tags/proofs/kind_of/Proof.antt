@@ -1,4 +1,4 @@
--- `tags::kind_of` meets its contract: each way out by the rule of the table. Assumes nothing.
+-- `tags::kind_of` meets its contract: each way out by the rule of the table.
 use mathlib.Core.Path.{_≡_, refl}
 use native.Mathlib.Omega.{arith}
 use borrow.Author.Tests.{ne-eqb}

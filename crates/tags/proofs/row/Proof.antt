@@ -1,4 +1,4 @@
--- `tags::row` meets its contract: each way out by the tests that led there. Assumes nothing.
+-- `tags::row` meets its contract: each way out by the tests that led there.
 use borrow.Author.Tests.{eq-eqb, ne-eqb, lt-ltb, le-ltb}
 use Rattle.tags.specs.Rows.{rowNumber}
 use borrow.Author.Needs.{needs}

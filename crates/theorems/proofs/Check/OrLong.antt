@@ -1,4 +1,4 @@
--- What a limit does, proved: how a text is read under it, and that it turns an answer into 22 and into nothing else. Assumes nothing.
+-- What a limit does, proved: how a text is read under it, and that it turns an answer into 22 and into nothing else.
 use Prim.Native.Nat.{ℕ, _≤_}
 use mathlib.Core.Path.{_≡_, refl, sym, _∙_}
 use mathlib.Core.List.{List}

@@ -1,4 +1,4 @@
--- One frame, one meaning holds (BSON 1.1, "Specification"; document 01, "The whole check"). Assumes nothing.
+-- One frame, one meaning holds (BSON 1.1, "Specification"; document 01, "The whole check").
 use Prim.Native.Nat.{ℕ}
 use mathlib.Core.Path.{_≡_, refl, sym, _∙_}
 use mathlib.Core.List.{List}

@@ -1,5 +1,5 @@
 -- The bytes of a good tree mean that tree: iterating, reading and opening them yields just its elements (document 01, "Writer and joining":
--- what the writer closes "reads back"). Assumes nothing.
+-- what the writer closes "reads back").
 use Prim.Native.Nat.{ℕ, _+_, _-_, _≤_, _<_}
 use mathlib.Core.Path.{_≡_, sym, ap, subst, _∙_}
 use mathlib.Core.List.{List, [], _∷_, _++_, append-assoc}

@@ -1,4 +1,4 @@
--- `typed::get_binary` meets its contract: it is the part that the call hands back. Assumes nothing.
+-- `typed::get_binary` meets its contract: it is the part that the call hands back.
 use borrow.Author.Needs.{needs}
 use Rattle.typed.proofs.get_binary.Statement.{statement}
 use Rattle.typed.proofs.get_binary.Tie as tie

@@ -1,4 +1,4 @@
--- `typed::get_bool` meets its contract: what the typed lookup finds, then the number in its framed bytes. Assumes nothing.
+-- `typed::get_bool` meets its contract: what the typed lookup finds, then the number in its framed bytes.
 use Rattle.bson.specs.Value.{bool}
 use Rattle.laws.proofs.AnswerLaws.{answered}
 use Rattle.laws.proofs.LookupLaws.{typed-is}

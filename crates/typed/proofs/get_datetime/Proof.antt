@@ -1,4 +1,4 @@
--- `typed::get_datetime` meets its contract: the tag of a datetime. Assumes nothing.
+-- `typed::get_datetime` meets its contract: the tag of a datetime.
 use borrow.Author.Needs.{needs}
 use Rattle.typed.proofs.get_datetime.Statement.{statement}
 use Rattle.typed.proofs.get_datetime.Tie as tie

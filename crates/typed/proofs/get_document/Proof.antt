@@ -1,4 +1,4 @@
--- `typed::get_document` meets its contract: it is the part that the call hands back. Assumes nothing.
+-- `typed::get_document` meets its contract: it is the part that the call hands back.
 use borrow.Author.Needs.{needs}
 use Rattle.typed.proofs.get_document.Statement.{statement}
 use Rattle.typed.proofs.get_document.Tie as tie

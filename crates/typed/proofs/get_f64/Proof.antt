@@ -1,4 +1,4 @@
--- `typed::get_f64` meets its contract: what the typed lookup finds, then the number in its framed bytes. Assumes nothing.
+-- `typed::get_f64` meets its contract: what the typed lookup finds, then the number in its framed bytes.
 use Rattle.bson.specs.Bytes.{le64}
 use Rattle.bson.specs.Framing.{inFront}
 use Rattle.laws.proofs.AnswerLaws.{answered}

@@ -1,4 +1,4 @@
--- `typed::get_i32` meets its contract: what the typed lookup finds, then the number in its framed bytes. Assumes nothing.
+-- `typed::get_i32` meets its contract: what the typed lookup finds, then the number in its framed bytes.
 use mir.Syntax.{w32}
 use mir.ValLaws.{toZ-ofZ}
 use Rattle.bson.specs.Bytes.{i32}

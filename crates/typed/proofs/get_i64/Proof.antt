@@ -1,4 +1,4 @@
--- `typed::get_i64` meets its contract: the tag of an int64. Assumes nothing.
+-- `typed::get_i64` meets its contract: the tag of an int64.
 use borrow.Author.Needs.{needs}
 use Rattle.typed.proofs.get_i64.Statement.{statement}
 use Rattle.typed.proofs.get_i64.Tie as tie

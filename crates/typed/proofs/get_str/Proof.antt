@@ -1,4 +1,4 @@
--- `typed::get_str` meets its contract: it is the part that the call hands back. Assumes nothing.
+-- `typed::get_str` meets its contract: it is the part that the call hands back.
 use borrow.Author.Needs.{needs}
 use Rattle.typed.proofs.get_str.Statement.{statement}
 use Rattle.typed.proofs.get_str.Tie as tie

@@ -1,4 +1,4 @@
--- `typed::int64` meets its contract: what the typed lookup finds, then the number in its framed bytes. Assumes nothing.
+-- `typed::int64` meets its contract: what the typed lookup finds, then the number in its framed bytes.
 use mir.Syntax.{w64}
 use mir.ValLaws.{toZ-ofZ}
 use Rattle.bson.specs.Bytes.{i64}

@@ -1,4 +1,4 @@
--- `utf8::ascii` meets its contract: `all` stands for the bytes before j. Assumes nothing.
+-- `utf8::ascii` meets its contract: `all` stands for the bytes before j.
 use Prim.Native.Nat.{_-_}
 use mathlib.Core.Path.{refl}
 use native.Mathlib.Omega.{arith}

@@ -1,4 +1,4 @@
--- `utf8::by_eights` meets its contract: the blocks before i are ASCII, so the bytes from i on decide. Assumes nothing.
+-- `utf8::by_eights` meets its contract: the blocks before i are ASCII, so the bytes from i on decide.
 use Prim.Native.Nat.{_-_}
 use mathlib.Core.Path.{refl, sym, _∙_}
 use native.Mathlib.Omega.{arith}

@@ -1,4 +1,4 @@
--- `utf8::ends_in_ascii` meets its contract: below eight bytes nothing is left out, from eight on all but the last eight. Assumes nothing.
+-- `utf8::ends_in_ascii` meets its contract: below eight bytes nothing is left out, from eight on all but the last eight.
 use Prim.Native.Nat.{_-_}
 use mathlib.Core.Path.{_≡_, ap, _∙_}
 use native.Mathlib.Omega.{arith}

@@ -1,4 +1,4 @@
--- `utf8::is_utf8` meets its contract: the blocks before i are ASCII, so the bytes from i on decide, and those from k on. Assumes nothing.
+-- `utf8::is_utf8` meets its contract: the blocks before i are ASCII, so the bytes from i on decide, and those from k on.
 use Prim.Native.Nat.{_+_, _-_}
 use mathlib.Core.Path.{_≡_, refl, sym, _∙_}
 use native.Mathlib.Omega.{arith}

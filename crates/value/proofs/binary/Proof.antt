@@ -1,4 +1,4 @@
--- `value::binary` meets its contract: each way out by the tests that led there. Assumes nothing.
+-- `value::binary` meets its contract: each way out by the tests that led there.
 use borrow.Author.Tests.{ne-eqb}
 use borrow.Author.Needs.{needs}
 use Rattle.bson.specs.Value.{binaryValue}

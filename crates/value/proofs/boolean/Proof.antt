@@ -1,4 +1,4 @@
--- `value::boolean` meets its contract: the number's answer, as a value. Assumes nothing.
+-- `value::boolean` meets its contract: the number's answer, as a value.
 use borrow.Author.Needs.{needs}
 use Rattle.laws.proofs.AnswerLaws.{answered}
 use Rattle.num.specs.Said.{saidBoolean}

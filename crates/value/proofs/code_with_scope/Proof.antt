@@ -1,4 +1,4 @@
--- `value::code_with_scope` meets its contract: the size of the code says where code and scope lie. Assumes nothing.
+-- `value::code_with_scope` meets its contract: the size of the code says where code and scope lie.
 use native.Mathlib.Omega.{arith}
 use borrow.Author.Needs.{needs}
 use Rattle.laws.proofs.AnswerLaws.{answered}

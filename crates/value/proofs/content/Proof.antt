@@ -1,4 +1,4 @@
--- `value::content` meets its contract: the tag's row says which type's answer it is. Assumes nothing.
+-- `value::content` meets its contract: the tag's row says which type's answer it is.
 use mathlib.Core.Path.{ap}
 use native.Mathlib.Omega.{arith}
 use lib.ListN.{length}

@@ -1,4 +1,4 @@
--- `value::db_pointer` meets its contract: the namespace is tested, the last twelve bytes are the id. Assumes nothing.
+-- `value::db_pointer` meets its contract: the namespace is tested, the last twelve bytes are the id.
 use Prim.Native.Nat.{_-_}
 use mathlib.Core.Path.{_≡_, sym, _∙_}
 use mathlib.Core.Logic.{⊎-elim}

@@ -1,4 +1,4 @@
--- `value::double` meets its contract: the bits, as a value. Assumes nothing.
+-- `value::double` meets its contract: the bits, as a value.
 use borrow.Author.Needs.{needs}
 use Rattle.laws.proofs.AnswerLaws.{answered}
 use Rattle.num.specs.Said.{saidDouble}

@@ -1,4 +1,4 @@
--- `value::int32` meets its contract: the number's answer, as a value. Assumes nothing.
+-- `value::int32` meets its contract: the number's answer, as a value.
 use mir.Syntax.{w32}
 use mir.ValLaws.{toZ-ofZ}
 use borrow.Author.Needs.{needs}

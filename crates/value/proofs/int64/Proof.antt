@@ -1,4 +1,4 @@
--- `value::int64` meets its contract: the number's answer, as the value that the tag asks for. Assumes nothing.
+-- `value::int64` meets its contract: the number's answer, as the value that the tag asks for.
 use mir.Syntax.{w64}
 use mir.ValLaws.{toZ-ofZ}
 use borrow.Author.Tests.{eq-eqb, ne-eqb}

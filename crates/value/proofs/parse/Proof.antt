@@ -1,4 +1,4 @@
--- `value::parse` meets its contract: a part inside the slice is read, another refused. Assumes nothing.
+-- `value::parse` meets its contract: a part inside the slice is read, another refused.
 use Prim.Native.Nat.{_+_}
 use native.Mathlib.Omega.{arith}
 use lib.ListN.{length}

@@ -1,4 +1,4 @@
--- `value::regular_expression` meets its contract: the two parts, from the offset on. Assumes nothing.
+-- `value::regular_expression` meets its contract: the two parts, from the offset on.
 use native.Mathlib.Nat.{add-assoc}
 use native.Mathlib.Omega.{arith}
 use borrow.Author.Needs.{needs}

@@ -1,4 +1,4 @@
--- `value::text` meets its contract: each way out by the tests that led there. Assumes nothing.
+-- `value::text` meets its contract: each way out by the tests that led there.
 use mathlib.Core.Path.{sym, _∙_}
 use borrow.Author.Tests.{eq-eqb, ne-eqb, not-true, not-false}
 use borrow.Author.Needs.{needs}

@@ -1,4 +1,4 @@
--- `value::timestamp` meets its contract: the two numbers, as a value. Assumes nothing.
+-- `value::timestamp` meets its contract: the two numbers, as a value.
 use borrow.Author.Needs.{needs}
 use Rattle.laws.proofs.AnswerLaws.{answered}
 use Rattle.num.specs.Said.{saidTimestamp}

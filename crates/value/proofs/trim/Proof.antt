@@ -1,4 +1,4 @@
--- `value::trim` meets its contract: what is left of the size is zero where less than that is there. Assumes nothing.
+-- `value::trim` meets its contract: what is left of the size is zero where less than that is there.
 use Prim.Native.Nat.{_+_, _-_}
 use mathlib.Core.Path.{_≡_}
 use native.Mathlib.Omega.{arith}

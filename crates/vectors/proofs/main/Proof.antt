@@ -1,4 +1,4 @@
--- `vectors::main` meets its contract: what is held fits the buffer, and the turns grow fewer. Assumes nothing.
+-- `vectors::main` meets its contract: what is held fits the buffer, and the turns grow fewer.
 use Prim.Native.Nat.{_≤_}
 use mathlib.Core.Path.{_≡_}
 use lib.ListN.{length}

@@ -1,4 +1,4 @@
--- `vectors::move_to_front` meets its contract: the byte read lies behind the one written, and the length stays. Assumes nothing.
+-- `vectors::move_to_front` meets its contract: the byte read lies behind the one written, and the length stays.
 use Prim.Native.Nat.{_+_, _-_, _≤_}
 use mathlib.Core.Path.{_≡_}
 use lib.ListN.{length}

@@ -1,4 +1,4 @@
--- `vectors::replay_lines` meets its contract: each line ends behind its start. Assumes nothing.
+-- `vectors::replay_lines` meets its contract: each line ends behind its start.
 use Prim.Native.Nat.{_-_, _≤_}
 use lib.ListN.{length}
 use borrow.Author.Needs.{needs}

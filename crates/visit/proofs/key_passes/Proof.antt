@@ -1,4 +1,4 @@
--- `visit::key_passes` meets its contract: the key of an array goes by its digits, any other passes. Assumes nothing.
+-- `visit::key_passes` meets its contract: the key of an array goes by its digits, any other passes.
 use mathlib.Core.Path.{ap, _∙_}
 use Rattle.bson.specs.ArrayKey.{goodArrayKey}
 use borrow.Author.Needs.{needs}

@@ -1,4 +1,4 @@
--- `visit::opening_of` meets its contract: case by case. Assumes nothing.
+-- `visit::opening_of` meets its contract: case by case.
 use Prim.Native.Nat.{ℕ}
 use mathlib.Core.Path.{_≡_, refl}
 use mathlib.Core.List.{List, [], _∷_}

@@ -1,4 +1,4 @@
--- `visit::visit` meets its contract: key, reading and depth in this order. Assumes nothing.
+-- `visit::visit` meets its contract: key, reading and depth in this order.
 use mathlib.Core.Path.{sym, ap, _∙_}
 use native.Mathlib.Omega.{arith}
 use borrow.Author.Tests.{lt-leb}

@@ -1,4 +1,4 @@
--- `whole::check_either` meets its contract: the walk of the slice itself. Assumes nothing.
+-- `whole::check_either` meets its contract: the walk of the slice itself.
 use Rattle.bson.specs.Check.{checkUnder}
 use borrow.Author.Needs.{needs}
 use Rattle.whole.proofs.check_either.Statement.{statement}

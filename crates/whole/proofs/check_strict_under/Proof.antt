@@ -1,4 +1,4 @@
--- `whole::check_strict_under` meets its contract: the walk that asks for the keys of arrays. Assumes nothing.
+-- `whole::check_strict_under` meets its contract: the walk that asks for the keys of arrays.
 use borrow.Author.Needs.{needs}
 use Rattle.whole.proofs.check_strict_under.Statement.{statement}
 use Rattle.whole.proofs.check_strict_under.Tie as tie

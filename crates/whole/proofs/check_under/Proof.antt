@@ -1,4 +1,4 @@
--- `whole::check_under` meets its contract: the walk with no question about keys. Assumes nothing.
+-- `whole::check_under` meets its contract: the walk with no question about keys.
 use borrow.Author.Needs.{needs}
 use Rattle.whole.proofs.check_under.Statement.{statement}
 use Rattle.whole.proofs.check_under.Tie as tie

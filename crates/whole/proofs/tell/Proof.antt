@@ -1,4 +1,4 @@
--- `whole::tell` meets its contract: what is told holds of the tag. Assumes nothing.
+-- `whole::tell` meets its contract: what is told holds of the tag.
 use Rattle.laws.proofs.AnswerLaws.{answered}
 use Rattle.tags.specs.Said.{said}
 use Rattle.whole.proofs.tell.Statement.{statement}

@@ -1,4 +1,4 @@
--- `whole::visit_framed` meets its contract: what framing has told, or the visit. Assumes nothing.
+-- `whole::visit_framed` meets its contract: what framing has told, or the visit.
 use Rattle.visit.specs.Said.{saidVisited}
 use Rattle.whole.proofs.FramedLaws.{visits-closed, visits-document}
 use Rattle.whole.proofs.visit_framed.Statement.{statement}

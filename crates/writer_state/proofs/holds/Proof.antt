@@ -1,4 +1,4 @@
--- `writer_state::holds` meets its contract: a kind by its case. Assumes nothing.
+-- `writer_state::holds` meets its contract: a kind by its case.
 use Rattle.bson.specs.Writer.{kindHolds}
 use Rattle.writer_state.specs.Said.{saidKind}
 use Rattle.writer_state.proofs.holds.Statement.{statement}

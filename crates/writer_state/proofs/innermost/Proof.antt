@@ -1,4 +1,4 @@
--- `writer_state::innermost` meets its contract: each way out by the test that led there. Assumes nothing.
+-- `writer_state::innermost` meets its contract: each way out by the test that led there.
 use mathlib.Core.Path.{sym, _∙_}
 use native.Mathlib.Omega.{arith}
 use Rattle.laws.proofs.WriterLaws.{possible-says}

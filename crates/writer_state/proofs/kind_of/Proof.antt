@@ -1,4 +1,4 @@
--- `writer_state::kind_of` meets its contract: each way out by the test that led there. Assumes nothing.
+-- `writer_state::kind_of` meets its contract: each way out by the test that led there.
 use borrow.Author.Tests.{lt-ltb, le-ltb, eq-eqb, ne-eqb}
 use Rattle.bson.specs.Writer.{kindOf}
 use Rattle.writer_state.specs.Said.{saidKind}

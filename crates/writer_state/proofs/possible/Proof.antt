@@ -1,4 +1,4 @@
--- `writer_state::possible` meets its contract: each way out by the test that led there. Assumes nothing.
+-- `writer_state::possible` meets its contract: each way out by the test that led there.
 use native.Mathlib.Omega.{arith}
 use Rattle.writer_state.proofs.Tests.{too-many, past-the-room, open-decide}
 use Rattle.writer_state.proofs.possible.Statement.{statement}

@@ -1,4 +1,4 @@
--- `writer_state::room_of` meets its contract: each way out by the test that led there. Assumes nothing.
+-- `writer_state::room_of` meets its contract: each way out by the test that led there.
 use borrow.Author.Tests.{le-leb, lt-leb}
 use Rattle.bson.specs.Writer.{room}
 use Rattle.writer_state.proofs.room_of.Statement.{statement}

@@ -1,4 +1,4 @@
--- `writer_state::stand` meets its contract: each turn tests one open document and leaves those around it. Assumes nothing.
+-- `writer_state::stand` meets its contract: each turn tests one open document and leaves those around it.
 use Prim.Native.Nat.{_≤_}
 use mathlib.Core.Path.{_≡_, refl, sym, _∙_}
 use native.Mathlib.Omega.{arith}

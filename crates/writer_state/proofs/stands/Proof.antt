@@ -1,4 +1,4 @@
--- `writer_state::stands` meets its contract: each way out by the test that led there. Assumes nothing.
+-- `writer_state::stands` meets its contract: each way out by the test that led there.
 use mathlib.Core.Path.{refl}
 use native.Mathlib.Omega.{arith}
 use lib.Dec.{lit<}

@@ -1,4 +1,4 @@
--- `doc_writer::bytes::append_code` meets its contract: what the call on lent words leaves. Assumes nothing.
+-- `doc_writer::bytes::append_code` meets its contract: what the call on lent words leaves.
 use Rattle.doc_writer.proofs.bytes.append_code.Statement.{statement}
 use Rattle.doc_writer.proofs.bytes.append_code.Tie as tie
 

@@ -1,4 +1,4 @@
--- `doc_writer::bytes::append_string` meets its contract: what the call on lent words leaves. Assumes nothing.
+-- `doc_writer::bytes::append_string` meets its contract: what the call on lent words leaves.
 use Rattle.doc_writer.proofs.bytes.append_string.Statement.{statement}
 use Rattle.doc_writer.proofs.bytes.append_string.Tie as tie
 

@@ -1,4 +1,4 @@
--- `doc_writer::bytes::append_symbol` meets its contract: what the call on lent words leaves. Assumes nothing.
+-- `doc_writer::bytes::append_symbol` meets its contract: what the call on lent words leaves.
 use Rattle.doc_writer.proofs.bytes.append_symbol.Statement.{statement}
 use Rattle.doc_writer.proofs.bytes.append_symbol.Tie as tie
 

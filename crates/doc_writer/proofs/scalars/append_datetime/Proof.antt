@@ -1,4 +1,4 @@
--- `doc_writer::scalars::append_datetime` meets its contract: what the call on lent words leaves. Assumes nothing.
+-- `doc_writer::scalars::append_datetime` meets its contract: what the call on lent words leaves.
 use lib.IntN.{ℤ}
 use mir.Syntax.{w64}
 use Rattle.bson.specs.Value.{dateTime}

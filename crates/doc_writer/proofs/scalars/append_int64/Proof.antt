@@ -1,4 +1,4 @@
--- `doc_writer::scalars::append_int64` meets its contract: what the call on lent words leaves. Assumes nothing.
+-- `doc_writer::scalars::append_int64` meets its contract: what the call on lent words leaves.
 use lib.IntN.{ℤ}
 use mir.Syntax.{w64}
 use Rattle.bson.specs.Value.{int64}

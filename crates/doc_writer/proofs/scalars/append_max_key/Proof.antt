@@ -1,4 +1,4 @@
--- `doc_writer::scalars::append_max_key` meets its contract: what the call on lent words leaves. Assumes nothing.
+-- `doc_writer::scalars::append_max_key` meets its contract: what the call on lent words leaves.
 use Rattle.doc_writer.proofs.scalars.append_max_key.Statement.{statement}
 use Rattle.doc_writer.proofs.scalars.append_max_key.Tie as tie
 

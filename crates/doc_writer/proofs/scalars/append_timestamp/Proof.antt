@@ -1,4 +1,4 @@
--- `doc_writer::scalars::append_timestamp` meets its contract: what the call on lent words leaves. Assumes nothing.
+-- `doc_writer::scalars::append_timestamp` meets its contract: what the call on lent words leaves.
 use Rattle.doc_writer.proofs.scalars.append_timestamp.Statement.{statement}
 use Rattle.doc_writer.proofs.scalars.append_timestamp.Tie as tie
 

@@ -1,4 +1,4 @@
--- `reading::parts::binary` meets its contract: it is the part that the call hands back. Assumes nothing.
+-- `reading::parts::binary` meets its contract: it is the part that the call hands back.
 use borrow.Author.Needs.{needs}
 use Rattle.reading.proofs.parts.binary.Statement.{statement}
 use Rattle.reading.proofs.parts.binary.Tie as tie

@@ -1,4 +1,4 @@
--- `reading::parts::code` meets its contract: it is the part that the call hands back. Assumes nothing.
+-- `reading::parts::code` meets its contract: it is the part that the call hands back.
 use borrow.Author.Needs.{needs}
 use Rattle.reading.proofs.parts.code.Statement.{statement}
 use Rattle.reading.proofs.parts.code.Tie as tie

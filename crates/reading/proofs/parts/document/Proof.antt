@@ -1,4 +1,4 @@
--- `reading::parts::document` meets its contract: it is the part that the call hands back. Assumes nothing.
+-- `reading::parts::document` meets its contract: it is the part that the call hands back.
 use borrow.Author.Needs.{needs}
 use Rattle.reading.proofs.parts.document.Statement.{statement}
 use Rattle.reading.proofs.parts.document.Tie as tie

@@ -1,4 +1,4 @@
--- `reading::parts::namespace` meets its contract: it is the part that the call hands back. Assumes nothing.
+-- `reading::parts::namespace` meets its contract: it is the part that the call hands back.
 use borrow.Author.Needs.{needs}
 use Rattle.reading.proofs.parts.namespace.Statement.{statement}
 use Rattle.reading.proofs.parts.namespace.Tie as tie

@@ -1,4 +1,4 @@
--- `reading::parts::pattern` meets its contract: it is the part that the call hands back. Assumes nothing.
+-- `reading::parts::pattern` meets its contract: it is the part that the call hands back.
 use borrow.Author.Needs.{needs}
 use Rattle.reading.proofs.parts.pattern.Statement.{statement}
 use Rattle.reading.proofs.parts.pattern.Tie as tie

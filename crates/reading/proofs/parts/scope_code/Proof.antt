@@ -1,4 +1,4 @@
--- `reading::parts::scope_code` meets its contract: it is the part that the call hands back. Assumes nothing.
+-- `reading::parts::scope_code` meets its contract: it is the part that the call hands back.
 use borrow.Author.Needs.{needs}
 use Rattle.reading.proofs.parts.scope_code.Statement.{statement}
 use Rattle.reading.proofs.parts.scope_code.Tie as tie

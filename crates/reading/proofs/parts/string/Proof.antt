@@ -1,4 +1,4 @@
--- `reading::parts::string` meets its contract: it is the part that the call hands back. Assumes nothing.
+-- `reading::parts::string` meets its contract: it is the part that the call hands back.
 use borrow.Author.Needs.{needs}
 use Rattle.reading.proofs.parts.string.Statement.{statement}
 use Rattle.reading.proofs.parts.string.Tie as tie

@@ -1,4 +1,4 @@
--- `reading::parts::symbol` meets its contract: it is the part that the call hands back. Assumes nothing.
+-- `reading::parts::symbol` meets its contract: it is the part that the call hands back.
 use borrow.Author.Needs.{needs}
 use Rattle.reading.proofs.parts.symbol.Statement.{statement}
 use Rattle.reading.proofs.parts.symbol.Tie as tie

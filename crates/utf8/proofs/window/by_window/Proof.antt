@@ -1,4 +1,4 @@
--- `utf8::window::by_window` meets its contract: the bytes before j are judged, and the last three say what is left. Assumes nothing.
+-- `utf8::window::by_window` meets its contract: the bytes before j are judged, and the last three say what is left.
 use Prim.Native.Nat.{_-_}
 use native.Mathlib.Omega.{arith}
 use borrow.Author.Needs.{needs}

@@ -1,4 +1,4 @@
--- `value::inside::code_len` meets its contract: each way out by the tests and the answers that led there. Assumes nothing.
+-- `value::inside::code_len` meets its contract: each way out by the tests and the answers that led there.
 use mathlib.Core.Path.{sym, _∙_}
 use native.Mathlib.Omega.{arith}
 use borrow.Author.Tests.{le-leb, lt-leb, not-true, not-false}

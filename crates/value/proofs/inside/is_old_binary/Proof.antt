@@ -1,4 +1,4 @@
--- `value::inside::is_old_binary` meets its contract: the second length stands in the rest from 5. Assumes nothing.
+-- `value::inside::is_old_binary` meets its contract: the second length stands in the rest from 5.
 use mathlib.Core.Path.{ap}
 use native.Mathlib.Omega.{arith}
 use lib.ListN.{length, length-drop}

@@ -1,4 +1,4 @@
--- `value::inside::is_text` meets its contract: the bytes of the part decide. Assumes nothing.
+-- `value::inside::is_text` meets its contract: the bytes of the part decide.
 use mathlib.Core.Path.{ap, _∙_}
 use borrow.Author.Needs.{needs}
 use Rattle.bson.specs.Utf8.{utf8}

@@ -1,4 +1,4 @@
--- `value::inside::scope` meets its contract: admission of the rest, where there is one. Assumes nothing.
+-- `value::inside::scope` meets its contract: admission of the rest, where there is one.
 use mathlib.Core.Path.{ap, _∙_}
 use borrow.Author.Tests.{lt-ltb, le-ltb}
 use borrow.Author.Needs.{needs}

@@ -1,4 +1,4 @@
--- `vectors::documents::replay_parts` meets its contract: each part ends behind its separator. Assumes nothing.
+-- `vectors::documents::replay_parts` meets its contract: each part ends behind its separator.
 use Prim.Native.Nat.{_-_}
 use lib.ListN.{length}
 use borrow.Author.Needs.{needs}

@@ -1,4 +1,4 @@
--- `vectors::text::distance` meets its contract: of a number below 0, -1 less the number is not below 0 and leaves room for 1. Assumes nothing.
+-- `vectors::text::distance` meets its contract: of a number below 0, -1 less the number is not below 0 and leaves room for 1.
 use Prim.Native.Nat.{ℕ, suc, _<_}
 use mathlib.Core.Path.{_≡_, ap}
 use mathlib.Core.Bool.{true, false}

@@ -1,4 +1,4 @@
--- `vectors::text::field_count` meets its contract: each space lies behind the one before. Assumes nothing.
+-- `vectors::text::field_count` meets its contract: each space lies behind the one before.
 use Prim.Native.Nat.{_-_, _≤_}
 use lib.ListN.{length}
 use borrow.Author.Needs.{needs}

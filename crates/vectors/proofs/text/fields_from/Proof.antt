@@ -1,4 +1,4 @@
--- `vectors::text::fields_from` meets its contract: each field begins within the text. Assumes nothing.
+-- `vectors::text::fields_from` meets its contract: each field begins within the text.
 use Prim.Native.Nat.{_-_, _≤_}
 use lib.ListN.{length}
 use borrow.Author.Needs.{needs}

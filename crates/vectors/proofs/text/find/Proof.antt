@@ -1,4 +1,4 @@
--- `vectors::text::find` meets its contract: the offset only grows, up to the end. Assumes nothing.
+-- `vectors::text::find` meets its contract: the offset only grows, up to the end.
 use Prim.Native.Nat.{_≤_, _-_}
 use lib.ListN.{length}
 use borrow.Author.Needs.{needs}

@@ -1,4 +1,4 @@
--- `vectors::text::number_of` meets its contract: the offset grows up to the end. Assumes nothing.
+-- `vectors::text::number_of` meets its contract: the offset grows up to the end.
 use Prim.Native.Nat.{_-_}
 use lib.ListN.{length}
 use borrow.Author.Needs.{needs}

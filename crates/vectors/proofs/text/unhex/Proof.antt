@@ -1,4 +1,4 @@
--- `vectors::text::unhex` meets its contract: each byte has two digits and a place. Assumes nothing.
+-- `vectors::text::unhex` meets its contract: each byte has two digits and a place.
 use Prim.Native.Nat.{_+_, _-_, _≤_}
 use mathlib.Core.Path.{_≡_}
 use lib.ListN.{length}

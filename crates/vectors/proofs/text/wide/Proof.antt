@@ -1,4 +1,4 @@
--- `vectors::text::wide` meets its contract: what 32 bits hold 64 bits hold. Assumes nothing.
+-- `vectors::text::wide` meets its contract: what 32 bits hold 64 bits hold.
 use native.Mathlib.Omega.{arith}
 use mir.Syntax.{w32}
 use mir.ValLaws.{toZ-ofZ}

@@ -1,4 +1,4 @@
--- `vectors::text::word_number` meets its contract: the words grow fewer. Assumes nothing.
+-- `vectors::text::word_number` meets its contract: the words grow fewer.
 use Prim.Native.Nat.{_-_}
 use borrow.Author.Needs.{needs}
 use Rattle.vectors.proofs.text.word_number.Statement.{statement}

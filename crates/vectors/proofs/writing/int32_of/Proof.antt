@@ -1,4 +1,4 @@
--- `vectors::writing::int32_of` meets its contract, by the law of every width at 32. Assumes nothing.
+-- `vectors::writing::int32_of` meets its contract, by the law of every width at 32.
 use native.Mathlib.Omega.{arith}
 use mir.Syntax.{w32}
 use borrow.Author.Needs.{needs}

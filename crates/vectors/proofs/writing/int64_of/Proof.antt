@@ -1,4 +1,4 @@
--- `vectors::writing::int64_of` meets its contract, by the law of every width at 64. Assumes nothing.
+-- `vectors::writing::int64_of` meets its contract, by the law of every width at 64.
 use native.Mathlib.Omega.{arith}
 use mir.Syntax.{w64}
 use borrow.Author.Needs.{needs}

@@ -1,4 +1,4 @@
--- `vectors::writing::replay_calls` meets its contract: each call ends behind its separator, and the buffer keeps its length. Assumes nothing.
+-- `vectors::writing::replay_calls` meets its contract: each call ends behind its separator, and the buffer keeps its length.
 use Prim.Native.Nat.{_-_}
 use mathlib.Core.Path.{_≡_}
 use lib.ListN.{length}
