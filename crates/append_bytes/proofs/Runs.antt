@@ -28,7 +28,8 @@ text-size text = sym (simp length-append (omega (arith, length-bytes32 (length t
 pub whole-key : (w : State) (buffer : List ℕ) (tag : ℕ) (key value : List ℕ) {x : Written} {a b : Bool}
     → x ≡ appending w buffer 0 tag (take (length key - 0) (drop 0 key)) a value → a ≡ b → x ≡ appending w buffer 0 tag key b value
 whole-key w buffer tag key value {a = a} h e =
-    h ∙ ap (λ (k : List ℕ). appending w buffer 0 tag k a value) (rest-part key 0) ∙ ap (λ (good : Bool). appending w buffer 0 tag key good value) e
+    h ∙ ap (λ (k : List ℕ). appending w buffer 0 tag k a value) (rest-part key 0)
+    ∙ ap (λ (good : Bool). appending w buffer 0 tag key good value) e
 
 module _ (subtype : ℕ) (contents size : List ℕ) (es : size ≡ bytes32 (length contents)) where
   pub with-inner-length : subtype ≡ 2 → (outer : List ℕ) → outer ≡ bytes32 (length contents + 4)

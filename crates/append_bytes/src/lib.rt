@@ -159,7 +159,8 @@ pub fn append_object_id(out: &mut [u8], words: &mut Words, key: &[u8], id: &[u8;
 // Appends a decimal128 by its bits.
 pub fn append_decimal128(out: &mut [u8], words: &mut Words, key: &[u8], bits: &[u8; 16]) -> u8
     ensures { λ r. ⌜ writer.written r (now (words .exit)) (now (out .exit))
-        ≡ writer.performed (writer.append (now (key .entry)) (value.decimal128 (now (bits .entry)))) (now (words .entry)) (now (out .entry)) ⌝ }
+        ≡ writer.performed (writer.append (now (key .entry)) (value.decimal128 (now (bits .entry)))) (now (words .entry))
+        (now (out .entry)) ⌝ }
 {
     appending::append(
         out,

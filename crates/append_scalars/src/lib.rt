@@ -18,7 +18,8 @@ fn append_words(
     second: usize,
 ) -> u8
     ensures { λ r. ⌜ writer.written r (now (words .exit)) (now (out .exit))
-        ≡ appending (now (words .entry)) (now (out .entry)) 0 tag (now (key .entry)) true (grammar.bytes32 first ++ grammar.bytes32 second) ⌝ }
+        ≡ appending (now (words .entry)) (now (out .entry)) 0 tag (now (key .entry)) true
+        (grammar.bytes32 first ++ grammar.bytes32 second) ⌝ }
 {
     let n = appending::head(out, words, 0, tag, key, true, 8);
     if n == 0 {
@@ -108,7 +109,8 @@ pub fn append_timestamp(
     seconds: u32,
 ) -> u8
     ensures { λ r. ⌜ writer.written r (now (words .exit)) (now (out .exit))
-        ≡ writer.performed (writer.append (now (key .entry)) (value.timestamp increment seconds)) (now (words .entry)) (now (out .entry)) ⌝ }
+        ≡ writer.performed (writer.append (now (key .entry)) (value.timestamp increment seconds)) (now (words .entry))
+        (now (out .entry)) ⌝ }
 {
     append_words(
         out,

@@ -49,5 +49,6 @@ module _ (w : State) (room : ℕ) (kind : Kind) (ei : innermost w room ≡ gives
     unfolding roomFor
     room-decides e u d z eu ed ez f ef =
         let g : f ≡ leb (u + (2 + z + size) + (d + more)) room
-        = ef ∙ ap (λ (m : ℕ). leb m (room - (u + d))) (omega arith) ∙ left-fits room u d (2 + z + size) more (omega (arith, left-open w room kind ei)) in
+        = ef ∙ ap (λ (m : ℕ). leb m (room - (u + d))) (omega arith)
+        ∙ left-fits room u d (2 + z + size) more (omega (arith, left-open w room kind ei)) in
         rw (ei, le-leb (nextDepth w) 200 (omega arith), ← ek, e, ← eu, ← ed, ← ez, ← g) (number-by f kind)

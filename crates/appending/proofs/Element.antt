@@ -1,4 +1,5 @@
--- The head of an element that the tests let pass, and what it leaves in the buffer, as the code meets them (document 01, "Writer and joining").
+-- The head of an element that the tests let pass, and what it leaves in the buffer, as the code meets them
+-- (document 01, "Writer and joining").
 use Prim.Native.Nat.{ℕ, _+_, _-_, _≤_, _<_, _^_}
 use mathlib.Core.Path.{_≡_, refl, sym, ap, _∙_}
 use mathlib.Core.List.{List, [], _∷_}
@@ -9,7 +10,8 @@ use borrow.Author.Tests.{leb-true, le-leb}
 use Rattle.bson.specs.Answer.{Answer, gives, refuses}
 use Rattle.bson.specs.Grammar.{elementBytes}
 use Rattle.bson.specs.Output.{Output, output, put, putTexts, joined}
-use Rattle.bson.specs.Writer.{State, used, depth, Kind, inDocument, inArray, keyIn, innermost, kindHolds, roomFor, grown, desk, room, written}
+use Rattle.bson.specs.Writer.{State, used, depth, Kind, inDocument, inArray, keyIn, innermost, kindHolds, roomFor, grown, desk, room}
+use Rattle.bson.specs.Writer.{written}
 use Rattle.laws.proofs.GrammarLaws.{length-element}
 use Rattle.laws.proofs.OutputLaws.{texts-fit}
 use Rattle.laws.proofs.WriterLaws.{room-within, innermost-says, DeskSizes, desk-sizes, room-says}
@@ -53,7 +55,8 @@ module _ (w : State) (buffer : List ℕ) (m : ℕ) (kind : Kind) (em : m ≡ roo
     unfolding heading headed
     refused h = by (roomFor w (room (length buffer)) more key good size) refl
       where
-        by : (a : Answer Kind) → roomFor w (room (length buffer)) more key good size ≡ a → written n w buffer ≡ heading w buffer more tag key good size
+        by : (a : Answer Kind) → roomFor w (room (length buffer)) more key good size ≡ a
+            → written n w buffer ≡ heading w buffer more tag key good size
         by (gives k) q = absurd (h (number-is ∙ ap numberOf q))
         by (refuses k p) q = rw (number-is, q)
 

@@ -118,12 +118,14 @@ module _ (w : State) (buffer : List ℕ) (more tag : ℕ) (key : List ℕ) (good
         (omega arith, omega (arith, a .fits, r .0), omega (arith, a .fits, r .1))
 
     pub value-put : length b ≡ length buffer → (at : ℕ) → at ≡ used v - size → (texts : List (List ℕ)) → joined texts ≡ value
-        → (exit : List ℕ) (end : ℕ) → output exit end ≡ putTexts (output b at) texts → written n v exit ≡ appending w buffer more tag key good value
+        → (exit : List ℕ) (end : ℕ) → output exit end ≡ putTexts (output b at) texts
+        → written n v exit ≡ appending w buffer more tag key good value
     unfolding appending
     value-put lb at ea texts ej exit end eo =
         let f = value-fits in
         let l : length (joined texts) ≡ length value = ap length ej in
-        let x : exit ≡ put b at (joined texts) = ap (λ (o : Output). o .buffer) (eo ∙ texts-fit (output b at) texts (omega (arith, f .0, f .1))) in
+        let x : exit
+        ≡ put b at (joined texts) = ap (λ (o : Output). o .buffer) (eo ∙ texts-fit (output b at) texts (omega (arith, f .0, f .1))) in
         let i : at ≡ used v - length value = omega arith in
         rw (given, z, x, ej, i)
 
@@ -135,7 +137,8 @@ head-ready w buffer more tag key good size n v b e z u eu =
 
 -- a head alone is an element without a value
 pub nothing-put : (w : State) (buffer : List ℕ) (more tag : ℕ) (key : List ℕ) (good : Bool) (n : ℕ) (v : State) (b : List ℕ)
-    → written n v b ≡ heading w buffer more tag key good 0 → length b ≡ length buffer → written n v b ≡ appending w buffer more tag key good []
+    → written n v b ≡ heading w buffer more tag key good 0 → length b ≡ length buffer
+    → written n v b ≡ appending w buffer more tag key good []
 nothing-put w buffer more tag key good n v b e lb =
     split (eqb n 0)
     (λ t. value-put w buffer more tag key good [] 0 refl n v b e (eqb-true n 0 t) lb (used v - 0) refl [] refl b (used v - 0) refl)

@@ -58,7 +58,9 @@ module _ (w : State) (buffer : List ℕ) (more tag : ℕ) (key : List ℕ) (good
 
     bounds : size ≡ bounded (length value)
     unfolding value
-    bounds = let k : length (p ++ (q ++ (r ++ s))) ≡ length p + (length q + (length r + length s)) = simp (length-append) in es ∙ ap bounded (sym k)
+    bounds =
+        let k : length (p ++ (q ++ (r ++ s))) ≡ length p + (length q + (length r + length s)) = simp (length-append) in
+        es ∙ ap bounded (sym k)
 
     is : written n v b ≡ heading w buffer more tag key good (length value)
     is = e ∙ ap (heading w buffer more tag key good) bounds ∙ bounded-heading (length value)
@@ -77,7 +79,8 @@ module _ (w : State) (buffer : List ℕ) (more tag : ℕ) (key : List ℕ) (good
       runs-fit = value-fits w buffer more tag key good value size size-is n v b e z .0
 
       pub runs-put : length b ≡ length buffer → (at : ℕ) → at ≡ used v - size → (exit : List ℕ) (end : ℕ)
-          → output exit end ≡ putTexts (output b at) (p ∷ q ∷ r ∷ s ∷ []) → written n v exit ≡ appending w buffer more tag key good (p ++ (q ++ (r ++ s)))
+          → output exit end ≡ putTexts (output b at) (p ∷ q ∷ r ∷ s ∷ [])
+          → written n v exit ≡ appending w buffer more tag key good (p ++ (q ++ (r ++ s)))
       unfolding value
       runs-put lb at ea exit end eo =
           value-put w buffer more tag key good value size size-is n v b e z lb at ea (p ∷ q ∷ r ∷ s ∷ [])

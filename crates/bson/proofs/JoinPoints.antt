@@ -18,5 +18,7 @@ use Rattle.bson.specs.Decided.{Hold}
 use Rattle.bson.specs.JoinPoints.{joinPoints}
 
 pub join-points-hold : Hold joinPoints
-unfolding le32 bytes rows utf8 zeroText cstringUnder tags rowOf fits framedUnder valueSizeUnder admitted elementUnder stepUnder iterateFor iterateUnder bool content valueIn valueOf goodArrayKey opening visit opened walkFor walkUnder checkUnder put bytes32 documentOf room body both sizeOfBoth bothPut join joinPoints
+unfolding le32 bytes rows utf8 zeroText cstringUnder tags rowOf fits framedUnder valueSizeUnder admitted elementUnder stepUnder
+    iterateFor iterateUnder bool content valueIn valueOf goodArrayKey opening visit opened walkFor walkUnder checkUnder put bytes32
+    documentOf room body both sizeOfBoth bothPut join joinPoints
 join-points-hold = refl

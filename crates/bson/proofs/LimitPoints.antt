@@ -7,7 +7,8 @@ use Rattle.bson.specs.Tags.{tags, rowOf}
 use Rattle.bson.specs.Framing.{lengthField, fits, zeroEnded, stringSize, documentSize, scopeSize}
 use Rattle.bson.specs.Framing.{patternOptionsUnder, regexSizeUnder, framedUnder, valueSizeUnder}
 use Rattle.bson.specs.Step.{admitted, elementUnder, stepUnder, keyAtUnder, iterateFor, iterateUnder}
-use Rattle.bson.specs.Value.{text, scopeValue, content, valueIn, valueOf, elementAtUnder, readAtUnder, readWithUnder, partsOf, partAtUnder}
+use Rattle.bson.specs.Value.{text, scopeValue, content, valueIn, valueOf, elementAtUnder, readAtUnder, readWithUnder, partsOf}
+use Rattle.bson.specs.Value.{partAtUnder}
 use Rattle.bson.specs.Lookup.{found, getUnder, getBytesUnder, getWithUnder, getPartUnder}
 use Rattle.bson.specs.ArrayKey.{goodArrayKey}
 use Rattle.bson.specs.Level.{opening}
@@ -16,5 +17,8 @@ use Rattle.bson.specs.Decided.{Hold}
 use Rattle.bson.specs.LimitPoints.{keyPoints, regexPoints, nestedPoints, callPoints}
 
 pub limit-points-hold : Hold keyPoints × Hold regexPoints × Hold nestedPoints × Hold callPoints
-unfolding le32 bytes rows utf8 zeroText cstringUnder tags rowOf lengthField fits zeroEnded stringSize documentSize scopeSize patternOptionsUnder regexSizeUnder framedUnder valueSizeUnder admitted elementUnder stepUnder keyAtUnder iterateFor iterateUnder text scopeValue content valueIn valueOf elementAtUnder readAtUnder readWithUnder partsOf partAtUnder found getUnder getBytesUnder getWithUnder getPartUnder goodArrayKey opening visit opened walkFor walkUnder checkUnder keyPoints regexPoints nestedPoints callPoints
+unfolding le32 bytes rows utf8 zeroText cstringUnder tags rowOf lengthField fits zeroEnded stringSize documentSize scopeSize
+    patternOptionsUnder regexSizeUnder framedUnder valueSizeUnder admitted elementUnder stepUnder keyAtUnder iterateFor iterateUnder text
+    scopeValue content valueIn valueOf elementAtUnder readAtUnder readWithUnder partsOf partAtUnder found getUnder getBytesUnder
+    getWithUnder getPartUnder goodArrayKey opening visit opened walkFor walkUnder checkUnder keyPoints regexPoints nestedPoints callPoints
 limit-points-hold = (refl, refl, refl, refl)

@@ -51,5 +51,7 @@ titled [] = []
 titled (x ∷ xs) = (title ++ x .1) ∷ titled xs
 
 pub transcripts-hold : prints transcripts ≡ titled transcripts
-unfolding le32 le64 signed i32 i64 bytes rows utf8 zeroText cstringUnder tags rowOf fits framedUnder valueSizeUnder admitted elementUnder stepUnder iterateFor iterateUnder bool content valueIn valueOf opening visit opened walkFor walkUnder checkUnder digits widthFor width decimal header hexByte elementLine verdictLine reportLines report
+unfolding le32 le64 signed i32 i64 bytes rows utf8 zeroText cstringUnder tags rowOf fits framedUnder valueSizeUnder admitted
+    elementUnder stepUnder iterateFor iterateUnder bool content valueIn valueOf opening visit opened walkFor walkUnder checkUnder digits
+    widthFor width decimal header hexByte elementLine verdictLine reportLines report
 transcripts-hold = refl

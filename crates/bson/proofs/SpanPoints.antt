@@ -10,5 +10,6 @@ use Rattle.bson.specs.Decided.{Hold}
 use Rattle.bson.specs.SpanPoints.{spanPoints}
 
 pub span-points-hold : Hold spanPoints
-unfolding le32 bytes rows utf8 zeroText cstringUnder tags rowOf lengthField fits scopeSize framedUnder valueSizeUnder admitted elementUnder stepUnder iterateFor iterateUnder spanPoints
+unfolding le32 bytes rows utf8 zeroText cstringUnder tags rowOf lengthField fits scopeSize framedUnder valueSizeUnder admitted
+    elementUnder stepUnder iterateFor iterateUnder spanPoints
 span-points-hold = refl

@@ -14,5 +14,8 @@ use Rattle.bson.specs.Check.{visit, opened, walkFor, walkUnder, checkUnd
 use Rattle.bson.specs.Vectors.{vectors, says}
 
 pub vectors-hold : says vectors ≡ vectors
-unfolding le32 le64 signed i32 i64 bytes rows utf8 zeroText cstringUnder tags rowOf lengthField fits zeroEnded stringSize pointerSize documentSize binarySize scopeSize patternOptionsUnder regexSizeUnder framedUnder valueSizeUnder admitted elementUnder stepUnder iterateFor iterateUnder bool timestampOf text binaryValue scopeValue content valueIn valueOf elementAtUnder readAtUnder found getUnder opening visit opened walkFor walkUnder checkUnder vectors
+unfolding le32 le64 signed i32 i64 bytes rows utf8 zeroText cstringUnder tags rowOf lengthField fits zeroEnded stringSize pointerSize
+    documentSize binarySize scopeSize patternOptionsUnder regexSizeUnder framedUnder valueSizeUnder admitted elementUnder stepUnder
+    iterateFor iterateUnder bool timestampOf text binaryValue scopeValue content valueIn valueOf elementAtUnder readAtUnder found getUnder
+    opening visit opened walkFor walkUnder checkUnder vectors
 vectors-hold = refl

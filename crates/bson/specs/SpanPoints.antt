@@ -1,5 +1,5 @@
--- The bytes of the elements that an iteration yields, of slices that end cleanly and of slices that are refused (document 02, request 13), each by
--- bytes that show it.
+-- The bytes of the elements that an iteration yields, of slices that end cleanly and of slices that are refused (document 02, request
+-- 13), each by bytes that show it.
 use Prim.Native.Nat.{ℕ}
 use mathlib.Core.List.{List, [], _∷_}
 use Rattle.bson.specs.Step.{iterate, elements, spans}

@@ -119,9 +119,9 @@ unfoldable pub grown : Kind → State → ℕ → State
 grown inDocument w n = set w 0 (used w + n)
 grown (inArray count) w n = set (set w 0 (used w + n)) (markAt (depth w - 1)) (count + 1)
 
--- an element with a value of so many bytes, `more` documents then open besides: "order: 18, 13, 15, 14", the last "exactly when the bytes used,
--- the new bytes", which are its tag, its key, a zero and its value, "and one zero for each document then open exceed" the room; what is given is
--- the kind of the innermost
+-- an element with a value of so many bytes, `more` documents then open besides: "order: 18, 13, 15, 14", the last "exactly when the bytes
+-- used, the new bytes", which are its tag, its key, a zero and its value, "and one zero for each document then open exceed" the room; what
+-- is given is the kind of the innermost
 unfoldable pub roomFor : State → ℕ → ℕ → List ℕ → Bool → ℕ → Answer Kind
 roomFor w space more key good size =
     then (innermost w space) λ kind.

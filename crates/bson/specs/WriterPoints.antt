@@ -137,10 +137,16 @@ unfoldable pub writtenPoints : List (List ℕ × List ℕ)
 writtenPoints =
     (wrote (openTop ∷ close ∷ []), 0x05 ∷ 0 ∷ 0 ∷ 0 ∷ 0 ∷ [])
     ∷ (wrote (openTop ∷ openNest document [] ∷ []), 0x05 ∷ 0 ∷ 0 ∷ 0 ∷ 0x03 ∷ 0 ∷ 0x05 ∷ 0 ∷ 0 ∷ 0 ∷ [])
-    ∷ (wrote (openTop ∷ append [] (binary 2 (0xAA ∷ [])) ∷ []), 0x05 ∷ 0 ∷ 0 ∷ 0 ∷ 0x05 ∷ 0 ∷ 0x05 ∷ 0 ∷ 0 ∷ 0 ∷ 0x02 ∷ 0x01 ∷ 0 ∷ 0 ∷ 0 ∷ 0xAA ∷ [])
+    ∷ (
+      wrote (openTop ∷ append [] (binary 2 (0xAA ∷ [])) ∷ []),
+      0x05 ∷ 0 ∷ 0 ∷ 0 ∷ 0x05 ∷ 0 ∷ 0x05 ∷ 0 ∷ 0 ∷ 0 ∷ 0x02 ∷ 0x01 ∷ 0 ∷ 0 ∷ 0 ∷ 0xAA ∷ [],
+    )
     ∷ (wrote (openTop ∷ append [] (int32 (negsuc 1)) ∷ []), 0x05 ∷ 0 ∷ 0 ∷ 0 ∷ 0x10 ∷ 0 ∷ 0xFE ∷ 0xFF ∷ 0xFF ∷ 0xFF ∷ [])
     ∷ (wrote (openTop ∷ append [] (timestamp 1 2) ∷ []), 0x05 ∷ 0 ∷ 0 ∷ 0 ∷ 0x11 ∷ 0 ∷ 0x01 ∷ 0 ∷ 0 ∷ 0 ∷ 0x02 ∷ 0 ∷ 0 ∷ 0 ∷ [])
-    ∷ (wrote (openTop ∷ append [] (double 0x3FF0_0000_0000_0000) ∷ []), 0x05 ∷ 0 ∷ 0 ∷ 0 ∷ 0x01 ∷ 0 ∷ 0 ∷ 0 ∷ 0 ∷ 0 ∷ 0 ∷ 0 ∷ 0xF0 ∷ 0x3F ∷ [])
+    ∷ (
+      wrote (openTop ∷ append [] (double 0x3FF0_0000_0000_0000) ∷ []),
+      0x05 ∷ 0 ∷ 0 ∷ 0 ∷ 0x01 ∷ 0 ∷ 0 ∷ 0 ∷ 0 ∷ 0 ∷ 0 ∷ 0 ∷ 0xF0 ∷ 0x3F ∷ [],
+    )
     ∷ (wrote (openTop ∷ append [] (string (0x61 ∷ [])) ∷ []), 0x05 ∷ 0 ∷ 0 ∷ 0 ∷ 0x02 ∷ 0 ∷ 0x02 ∷ 0 ∷ 0 ∷ 0 ∷ 0x61 ∷ 0 ∷ [])
     ∷ (wrote (openTop ∷ append [] (regex (0x61 ∷ []) (0x69 ∷ [])) ∷ []), 0x05 ∷ 0 ∷ 0 ∷ 0 ∷ 0x0B ∷ 0 ∷ 0x61 ∷ 0 ∷ 0x69 ∷ 0 ∷ [])
     ∷ (

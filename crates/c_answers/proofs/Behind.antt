@@ -18,7 +18,8 @@ use Rattle.c_answers.specs.declared.StepNumbers.{StepNumbers}
 
 -- admission refuses by no number above 3
 admission-low : (n : ℕ) → oneOf admissions n ≡ true → 3 < n → ⊥
-admission-low n h i = true≢false (sym (rw (ne-eqb n 1 (λ e. omega arith), ne-eqb n 2 (λ e. omega arith), ne-eqb n 3 (λ e. omega arith)) at h))
+admission-low n h i =
+    true≢false (sym (rw (ne-eqb n 1 (λ e. omega arith), ne-eqb n 2 (λ e. omega arith), ne-eqb n 3 (λ e. omega arith)) at h))
 
 module _ (limit : Limit) (s : List ℕ) (offset : ℕ) where
   abbrev pub answer : Answer Step
@@ -40,7 +41,12 @@ module _ (limit : Limit) (s : List ℕ) (offset : ℕ) where
         refused = λ i. absurd (omega (arith, i));
       }
   says (gives end) z q =
-      record { yields = λ n d. absurd (omega (arith, d)); ends = λ n d. ended-at limit s offset q; refused = λ i. absurd (omega (arith, i)) }
+      record {
+        yields = λ n d. absurd (omega (arith, d));
+        ends = λ n d. ended-at limit s offset q;
+        refused = λ i. absurd
+            (omega (arith, i));
+      }
   says (refuses number place) z q =
       record {
         yields = λ n d. absurd (omega (arith, n));

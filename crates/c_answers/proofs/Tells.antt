@@ -82,7 +82,8 @@ outcomeOf v = cond (eqb (v .number) 0) (wrote (v .length)) (refused (v .number) 
 
 joined-back : (a : Outcome) → JoinsIn a → outcomeOf (joined a) ≡ a
 joined-back (wrote n) h = refl
-joined-back (refused number place which) (inl h) = let k = one-above (damage unlimited) number refl (h .0) in rw (ne-eqb number 0 (λ e. omega arith))
+joined-back (refused number place which) (inl h) =
+    let k = one-above (damage unlimited) number refl (h .0) in rw (ne-eqb number 0 (λ e. omega arith))
 joined-back (refused number place which) (inr h) = rw (ne-eqb number 0 (λ e. omega arith))
 
 pub joined-tells : (a b : Outcome) → JoinsIn a → JoinsIn b → joined a ≡ joined b → a ≡ b
@@ -158,7 +159,8 @@ module _ (s : List ℕ) where
       let v : f .value ≡ g .value = cc in
       rw (e, v)
 
-  lookup-tells : (a b : Answer Found) → NoZero a → NoZero b → ((f : Found) → a ≡ gives f → HadThere f) → ((f : Found) → b ≡ gives f → HadThere f)
+  lookup-tells : (a b : Answer Found) → NoZero a → NoZero b → ((f : Found) → a ≡ gives f → HadThere f)
+      → ((f : Found) → b ≡ gives f → HadThere f)
       → found a ≡ found b → a ≡ b
   lookup-tells (gives f) (gives g) h k p q e =
       ap gives (one-there f g (p f refl) (q g refl) (ap (λ (x : Sight). x .0) (gives-injective (found-tells (gives f) (gives g) h k e))))
@@ -181,7 +183,8 @@ module _ (s : List ℕ) where
       get-no-zero l k = no-zero-under reads l refl (λ m. refl) (get-in l s k)
 
   pub get-with-tells : (limit limit′ : Limit) (key key′ : List ℕ) (tag tag′ : ℕ)
-      → found (getWithUnder limit s key tag) ≡ found (getWithUnder limit′ s key′ tag′) → getWithUnder limit s key tag ≡ getWithUnder limit′ s key′ tag′
+      → found (getWithUnder limit s key tag) ≡ found (getWithUnder limit′ s key′ tag′)
+      → getWithUnder limit s key tag ≡ getWithUnder limit′ s key′ tag′
   get-with-tells limit limit′ key key′ tag tag′ =
       lookup-tells _ _ (get-no-zero limit key tag) (get-no-zero limit′ key′ tag′) (with-there limit key tag) (with-there limit′ key′ tag′)
     where

@@ -1,5 +1,5 @@
--- The numbers that C is handed for a value that was read tell the value: from its tag, its number and its parts it is had again (document 01,
--- "Values" and module 8).
+-- The numbers that C is handed for a value that was read tell the value: from its tag, its number and its parts it is had again
+-- (document 01, "Values" and module 8).
 use Prim.Native.Nat.{ℕ, _+_, _*_, _-_, _/_, _%_}
 use mathlib.Core.Path.{_≡_, refl, ap, subst}
 use mathlib.Core.List.{List}
@@ -29,7 +29,8 @@ use Rattle.c_answers.specs.declared.ValueNumbers.{ValueNumbers}
 use Rattle.c_answers.proofs.Tells.{tells, answerOf, answer-refused}
 use Tags.{ElementType, Boolean, Int32, Double, Int64, DateTime, Timestamp, ObjectId, Decimal128, Null, Undefined, MinKey, MaxKey}
 use Tags.{String, JavaScriptCode, Symbol, DbPointer, EmbeddedDocument, Array, Binary, RegularExpression, JavaScriptCodeWithScope, typeOf}
-use Value.{Leaf, Value, leaf, document, array, codeWithScope, boolean, int32, int64, dateTime, double, timestamp, objectId, decimal128, string, code}
+use Value.{Leaf, Value, leaf, document, array, codeWithScope, boolean, int32, int64, dateTime, double, timestamp, objectId, decimal128}
+use Value.{string, code}
 use Value.{symbol, null, undefined, minKey, maxKey, dbPointer, binary, regex, asLeaf, bool, timestampOf, text, binaryValue, content}
 use Value.{valueIn, valueOf, readAtUnder, partsOf}
 
@@ -143,7 +144,8 @@ read-back (gives v) h k = ap gives (k v refl)
 read-back (refuses number place) h k = answer-refused number place _ h
 
 pub read-tells : (limit limit′ : Limit) (s t : List ℕ) → AreBytes s → AreBytes t → (place place′ : ℕ)
-    → valueRead (readAtUnder limit s place) ≡ valueRead (readAtUnder limit′ t place′) → readAtUnder limit s place ≡ readAtUnder limit′ t place′
+    → valueRead (readAtUnder limit s place) ≡ valueRead (readAtUnder limit′ t place′)
+    → readAtUnder limit s place ≡ readAtUnder limit′ t place′
 read-tells limit limit′ s t a b place place′ = tells readOf (back limit s a place) (back limit′ t b place′)
   where
     back : (l : Limit) (w : List ℕ) → AreBytes w → (p : ℕ) → readOf (valueRead (readAtUnder l w p)) ≡ readAtUnder l w p

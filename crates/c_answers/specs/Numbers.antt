@@ -47,7 +47,18 @@ joined (refused number place which) = record { number = number; place = place; w
 -- a step that yields no element, and the cursor behind it
 abbrev pub noElement : ℕ → ℕ → Cursor → StepNumbers
 noElement number place c =
-    record { number = number; place = place; ended = truth (c .ended); next = c .offset; «key_offset» = 0; «key_size» = 0; tag = 0; offset = 0; size = 0 }
+    record {
+      number = number;
+      place = place;
+      ended = truth
+          (c .ended);
+      next = c .offset;
+      «key_offset» = 0;
+      «key_size» = 0;
+      tag = 0;
+      offset = 0;
+      size = 0;
+    }
 
 -- a step, and the cursor behind it
 abbrev pub stepped : Answer Step → Cursor → StepNumbers

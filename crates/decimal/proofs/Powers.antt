@@ -1,4 +1,5 @@
--- Powers: the code's table holds the powers of ten, by one computed test, and what a turn of each loop over it leaves (document 02, request 5).
+-- Powers: the code's table holds the powers of ten, by one computed test, and what a turn of each loop over it
+-- leaves (document 02, request 5).
 use Prim.Native.Nat.{ℕ, suc, _+_, _-_, _*_, _%_, _^_, _≤_, _<_}
 use mathlib.Core.Path.{_≡_, sym, ap, _∙_}
 use mathlib.Core.Bool.{true}
@@ -31,7 +32,8 @@ module _ (n power digit rest : ℕ) (sum : n ≡ digit * power + rest) where
 pub one-digit : (k n : ℕ) → k ≡ 1 → n < 10 ^ k → n < 10
 one-digit k n e h = rw e at h
 
-pub digit-put : (buffer : List ℕ) (at k n : ℕ) → at < length buffer → k ≡ 1 → n < 10 ^ k → set buffer at (48 + n) ≡ put buffer at (digits k n)
+pub digit-put : (buffer : List ℕ) (at k n : ℕ) → at < length buffer → k ≡ 1 → n < 10 ^ k
+    → set buffer at (48 + n) ≡ put buffer at (digits k n)
 unfolding digits
 digit-put buffer at k n h e l =
     let small : n < 10 = one-digit k n e l in

@@ -1,5 +1,5 @@
-// A number in decimal, into a lent buffer: the one place where digits are made (document 01, "Writer and joining"), by a table of the powers of
-// ten and subtraction (document 02, request 5).
+// A number in decimal, into a lent buffer: the one place where digits are made (document 01, "Writer and joining"), by a table of the
+// powers of ten and subtraction (document 02, request 5).
 ghost use mathlib.Core.Path.{_≡_};
 ghost use Prim.Native.Nat.{_+_, _*_, _^_, _≤_, _<_};
 ghost use lib.ListN.{length};
@@ -92,8 +92,8 @@ fn lead(n: usize, power: usize) -> Split
     Split { digit, rest }
 }
 
-// Writes the k digits of a number that has no more, from the first on, where they fit: each is how often its power goes into what the ones before
-// it have left, and the last is what is left of all.
+// Writes the k digits of a number that has no more, from the first on, where they fit: each is how often its power goes into what the ones
+// before it have left, and the last is what is left of all.
 fn put_by(powers: &[usize], out: &mut [u8], at: usize, n: usize, k: usize)
     requires { ⌜ PowersOfTen (now powers) × (k ≤ length (now powers)) × (at + k ≤ length (now out)) × (0 < k) × (n < 10 ^ k) ⌝ }
     ensures { λ _. ⌜ now (out .exit) ≡ put (now (out .entry)) at (digits k n) ⌝ }

@@ -53,7 +53,8 @@ pub fn append_binary(
     contents: &[u8],
 ) -> Written
     ensures { λ r. ⌜ writer.written (r .number) (r .writer .words) (now (out .exit))
-        ≡ writer.performed (writer.append (now (key .entry)) (value.binary subtype (now (contents .entry)))) (w .words) (now (out .entry)) ⌝ }
+        ≡ writer.performed (writer.append (now (key .entry)) (value.binary subtype (now (contents .entry)))) (w .words)
+        (now (out .entry)) ⌝ }
 {
     let mut words = w.words;
     let number = append_bytes::append_binary(out, &mut words, key, subtype, contents);

@@ -2,7 +2,8 @@
 ghost use mathlib.Core.Path.{_≡_};
 ghost use Rattle.bson.specs.Answer.{then};
 ghost use Rattle.bson.specs.Step.{admitted};
-ghost use Rattle.bson.specs.Lookup.{found as foundIn, getUnder, getBytesUnder, getWithUnder, getPartUnder, get as lookup, getBytes, getWith, getPart, isEmpty};
+ghost use Rattle.bson.specs.Lookup.{found as foundIn, getUnder, getBytesUnder, getWithUnder, getPartUnder, get as lookup, getBytes};
+ghost use Rattle.bson.specs.Lookup.{getWith, getPart, isEmpty};
 ghost use Rattle.bson.specs.Value.{ofTag};
 ghost use Rattle.part.specs.Said.{saidLength};
 ghost use Rattle.cstr.specs.Said.{limitOf};

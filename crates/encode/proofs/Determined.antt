@@ -17,7 +17,8 @@ use Rattle.encode.proofs.bits64.Kinds as bits64-kinds
 pub bytes32-determined : (κs : Lfts 0) (a : Dens κs bytes32-kinds.ps) → Determined (bytes32-reads.Post κs a)
 bytes32-determined κs a r₁ r₂ s₁ s₂ p q = p ∙ sym q
 
-pub put-bytes32-determined : (κs : Lfts 1) (a : Dens κs put-bytes32-kinds.ps) → DeterminedBuf (λ s. now (s .0)) (put-bytes32-reads.Post κs a)
+pub put-bytes32-determined : (κs : Lfts 1) (a : Dens κs put-bytes32-kinds.ps)
+    → DeterminedBuf (λ s. now (s .0)) (put-bytes32-reads.Post κs a)
 put-bytes32-determined κs a r₁ r₂ s₁ s₂ p q = output-same _ _ r₁ r₂ _ p q
 
 pub bits32-determined : (κs : Lfts 0) (a : Dens κs bits32-kinds.ps) → Determined (bits32-reads.Post κs a)

@@ -1,4 +1,5 @@
-// Numbers as bytes and bits: four bytes, least first, of lengths and the halves of longer numbers; the bits of signed ones (BSON 1.1, "Basic Types").
+// Numbers as bytes and bits: four bytes, least first, of lengths and the halves of longer numbers; the bits of signed
+// ones (BSON 1.1, "Basic Types").
 ghost use mathlib.Core.Path.{_≡_};
 ghost use Rattle.bson.specs.Grammar as grammar;
 ghost use Rattle.bson.specs.Output.{output, putText};

@@ -97,7 +97,8 @@ fringewell-check-under-determined κs a r₁ r₂ s₁ s₂ p q = p ∙ sym q
 pub fringewell-check-strict-determined : (κs : Lfts 1) (a : Dens κs check-strict-kinds.ps) → Determined (check-strict-reads.Post κs a)
 fringewell-check-strict-determined κs a r₁ r₂ s₁ s₂ p q = p ∙ sym q
 
-pub fringewell-check-strict-under-determined : (κs : Lfts 1) (a : Dens κs check-strict-under-kinds.ps) → Determined (check-strict-under-reads.Post κs a)
+pub fringewell-check-strict-under-determined : (κs : Lfts 1) (a : Dens κs check-strict-under-kinds.ps)
+    → Determined (check-strict-under-reads.Post κs a)
 fringewell-check-strict-under-determined κs a r₁ r₂ s₁ s₂ p q = p ∙ sym q
 
 pub fringewell-is-empty-determined : (κs : Lfts 1) (a : Dens κs is-empty-kinds.ps) → Determined (is-empty-reads.Post κs a)
@@ -112,7 +113,8 @@ fringewell-lookup-under-determined κs a r₁ r₂ s₁ s₂ p q = p ∙ sym q
 pub fringewell-lookup-typed-determined : (κs : Lfts 2) (a : Dens κs lookup-typed-kinds.ps) → Determined (lookup-typed-reads.Post κs a)
 fringewell-lookup-typed-determined κs a r₁ r₂ s₁ s₂ p q = p ∙ sym q
 
-pub fringewell-lookup-typed-under-determined : (κs : Lfts 2) (a : Dens κs lookup-typed-under-kinds.ps) → Determined (lookup-typed-under-reads.Post κs a)
+pub fringewell-lookup-typed-under-determined : (κs : Lfts 2) (a : Dens κs lookup-typed-under-kinds.ps)
+    → Determined (lookup-typed-under-reads.Post κs a)
 fringewell-lookup-typed-under-determined κs a r₁ r₂ s₁ s₂ p q = p ∙ sym q
 
 pub fringewell-step-determined : (κs : Lfts 1) (a : Dens κs step-kinds.ps) → Determined (step-reads.Post κs a)

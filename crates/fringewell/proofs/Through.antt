@@ -22,7 +22,8 @@ pub step-through : (limit : Limit) (s : List ℕ) (c : Cursor) (r : Step) (n : S
     → n ≡ stepped (said r) (behind r) → n ≡ stepsUnder limit s c
 step-through limit s c r n (a, b) e = rw (e, a, b)
 
-pub join-through : (first second buffer exit : List ℕ) (o : paper.Outcome) (n : JoinedNumbers) → paper.joined o exit ≡ paper.join first second buffer
+pub join-through : (first second buffer exit : List ℕ) (o : paper.Outcome) (n : JoinedNumbers)
+    → paper.joined o exit ≡ paper.join first second buffer
     → n ≡ joined o → left n exit ≡ joins first second buffer
 join-through first second buffer exit o n q e = rw (e, ← q)
 

@@ -432,7 +432,8 @@ pub extern "C" fn fringewell_append_binary(
     contents: &[u8],
 ) -> WrittenNumbers
     ensures { λ r. ⌜ leaves r (now (words .exit)) (now (out .exit))
-        ≡ performs (writer.append (now (key .entry)) (value.binary subtype (now (contents .entry)))) (now (words .entry)) (now (out .entry)) ⌝ }
+        ≡ performs (writer.append (now (key .entry)) (value.binary subtype (now (contents .entry)))) (now (words .entry))
+        (now (out .entry)) ⌝ }
 {
     let number = append_bytes::append_binary(out, words, key, subtype, contents);
     c_answers::of_written(number, words)
@@ -448,7 +449,8 @@ pub extern "C" fn fringewell_append_regex(
     options: &[u8],
 ) -> WrittenNumbers
     ensures { λ r. ⌜ leaves r (now (words .exit)) (now (out .exit))
-        ≡ performs (writer.append (now (key .entry)) (value.regex (now (pattern .entry)) (now (options .entry)))) (now (words .entry)) (now (out .entry)) ⌝ }
+        ≡ performs (writer.append (now (key .entry)) (value.regex (now (pattern .entry)) (now (options .entry)))) (now (words .entry))
+        (now (out .entry)) ⌝ }
 {
     let number = append_bytes::append_regex(out, words, key, pattern, options);
     c_answers::of_written(number, words)
@@ -464,7 +466,8 @@ pub extern "C" fn fringewell_append_dbpointer(
     id: &[u8; 12],
 ) -> WrittenNumbers
     ensures { λ r. ⌜ leaves r (now (words .exit)) (now (out .exit))
-        ≡ performs (writer.append (now (key .entry)) (value.dbPointer (now (namespace .entry)) (now (id .entry)))) (now (words .entry)) (now (out .entry)) ⌝ }
+        ≡ performs (writer.append (now (key .entry)) (value.dbPointer (now (namespace .entry)) (now (id .entry)))) (now (words .entry))
+        (now (out .entry)) ⌝ }
 {
     let number = append_bytes::append_dbpointer(out, words, key, namespace, id);
     c_answers::of_written(number, words)

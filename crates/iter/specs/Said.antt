@@ -20,7 +20,8 @@ saidElement e = record { place = e .place; tag = e .tag; key = saidPart (e .key)
 
 -- the element at a place whose key and value are so long
 abbrev pub sized : ℕ → ℕ → ℕ → ℕ → paper.Element
-sized place tag key value = record { place = place; tag = tag; key = bytes.part (place + 1) key; value = bytes.part (place + 1 + key + 1) value }
+sized place tag key value =
+    record { place = place; tag = tag; key = bytes.part (place + 1) key; value = bytes.part (place + 1 + key + 1) value }
 
 abbrev pub saidSizes : ℕ → Sizes → Answer paper.Step
 saidSizes place (sizes.Yield tag key value) = gives (paper.yield (sized place tag key value))

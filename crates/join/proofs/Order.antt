@@ -1,4 +1,5 @@
--- The order of the tests, as the code meets it: the check of the first, then of the second, then the room (document 01, "Writer and joining").
+-- The order of the tests, as the code meets it: the check of the first, then of the second, then the room
+-- (document 01, "Writer and joining").
 use Prim.Native.Nat.{ℕ}
 use mathlib.Core.Path.{_≡_}
 use mathlib.Core.List.{List}
@@ -8,7 +9,8 @@ use Rattle.bson.specs.Check.{check}
 use Rattle.bson.specs.Join.{Joined, refused, joined, bothPut, join}
 
 module _ (first second buffer : List ℕ) where
-  pub first-refused : (number place : ℕ) → check false first ≡ refuses number place → joined (refused number place 1) buffer ≡ join first second buffer
+  pub first-refused : (number place : ℕ) → check false first ≡ refuses number place
+      → joined (refused number place 1) buffer ≡ join first second buffer
   unfolding join
   first-refused number place e = rw e
 

@@ -71,7 +71,8 @@ module _ (limit : Limit) (s : List ℕ) (m : ℕ) (a : admitted s ≡ gives m) w
   pub refused-place : (offset n p : ℕ) → stepUnder limit s (cursor offset false) ≡ refuses n p → p ≡ offset
   unfolding stepUnder
   refused-place offset n p q =
-      at-place (unless (begins s offset) 4 (cond (eqb offset (terminator s)) (gives end) (yieldingUnder limit s offset))) offset n p (rw a at q)
+      at-place (unless (begins s offset) 4 (cond (eqb offset (terminator s)) (gives end) (yieldingUnder limit s offset))) offset n p
+      (rw a at q)
 
 pub ended-at : (limit : Limit) (s : List ℕ) (offset : ℕ) → stepUnder limit s (cursor offset false) ≡ gives end → offset ≡ terminator s
 ended-at limit s offset e = step-ends limit s _ (step-admits _ s (cursor offset false) end e) offset .0 e

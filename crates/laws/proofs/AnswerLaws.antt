@@ -63,7 +63,8 @@ pub then-in : {A B : Type 0} {ms : List ℕ} {x : Answer A} {f : A → Answer B}
 then-in given g = g _ refl
 then-in (by e) g = by e
 
-pub unless-in : {A : Type 0} {ms : List ℕ} (b : Bool) (n : ℕ) {x : Answer A} → oneOf ms n ≡ true → RefusesIn ms x → RefusesIn ms (unless b n x)
+pub unless-in : {A : Type 0} {ms : List ℕ} (b : Bool) (n : ℕ) {x : Answer A} → oneOf ms n ≡ true → RefusesIn ms x
+    → RefusesIn ms (unless b n x)
 unless-in true n e h = h
 unless-in false n e h = by e
 

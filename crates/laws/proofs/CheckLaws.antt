@@ -43,7 +43,8 @@ module _ (strict : Bool) (s : List ℕ) (l : Level) (position : ℕ) (e : Elemen
 
 -- walks that agree on shorter lists
 module _ (strict : Bool) (s : List ℕ) (w x : Walk) (h : (v : List ℕ) (k : Level) → length v < length s → w v k ≡ x v k) where
-  inside-same : (l : Level) (position : ℕ) (c : Cursor) (e : Element) → FramedAt s c e → (o : Opening) → visit strict s l position e ≡ gives o
+  inside-same : (l : Level) (position : ℕ) (c : Cursor) (e : Element) → FramedAt s c e → (o : Opening)
+      → visit strict s l position e ≡ gives o
       → inside w s l o ≡ inside x s l o
   inside-same l position c e y closed q = refl
   inside-same l position c e y (opens isArray levels p) q =
@@ -51,17 +52,20 @@ module _ (strict : Bool) (s : List ℕ) (w x : Walk) (h : (v : List ℕ) (k : Le
       let o = value-opens s c e y (r .value) (r .reads) isArray levels p (r .is) in
       h _ _ (omega (arith, opens-shorter s c e y p o))
 
-  opened-same : (l : Level) (position : ℕ) (c : Cursor) (e : Element) → FramedAt s c e → opened strict w s l position e ≡ opened strict x s l position e
+  opened-same : (l : Level) (position : ℕ) (c : Cursor) (e : Element) → FramedAt s c e
+      → opened strict w s l position e ≡ opened strict x s l position e
   unfolding opened
   opened-same l position c e y = then-same (visit strict s l position e) _ _ (λ o q. rw (inside-same l position c e y o q))
 
-  along-same : (l : Level) (position offset : ℕ) (i : Iteration) → Each s offset i → along strict w s l position i ≡ along strict x s l position i
+  along-same : (l : Level) (position offset : ℕ) (i : Iteration) → Each s offset i
+      → along strict w s l position i ≡ along strict x s l position i
   along-same l position offset ended g = refl
   along-same l position offset (broken n p) g = refl
   along-same l position offset (more e rest) g = rw (opened-same l position _ e (g .0), along-same l (suc position) _ rest (g .1))
 
 -- as many levels as bytes, and one, are enough, so more change nothing
-enough : (limit : Limit) (strict : Bool) (n m : ℕ) (s : List ℕ) (l : Level) → length s < n → length s < m → walkFor limit n strict s l ≡ walkFor limit m strict s l
+enough : (limit : Limit) (strict : Bool) (n m : ℕ) (s : List ℕ) (l : Level) → length s < n → length s < m
+    → walkFor limit n strict s l ≡ walkFor limit m strict s l
 unfolding walkFor
 enough limit strict zero m s l h k = absurd (omega arith)
 enough limit strict (suc n) zero s l h k = absurd (omega arith)
@@ -80,23 +84,28 @@ walk-eq limit strict s l =
     (λ v d i. enough limit strict (length s) (suc (length v)) v d i (omega arith)) l 0 4 (iterateUnder limit s 4) (iterate-each limit s 4)
 
 module _ (limit : Limit) (strict : Bool) (s : List ℕ) (l : Level) (position offset : ℕ) where
-  walked : walkFrom limit strict s l position offset ≡ along strict (walkUnder limit strict) s l position (onward (stepUnder limit s (cursor offset false)) (iterateUnder limit s))
+  walked : walkFrom limit strict s l position offset
+      ≡ along strict (walkUnder limit strict) s l position (onward (stepUnder limit s (cursor offset false)) (iterateUnder limit s))
   walked = ap (along strict (walkUnder limit strict) s l position) (iterate-eq limit s offset)
 
   pub walk-ends : stepUnder limit s (cursor offset false) ≡ gives end → walkFrom limit strict s l position offset ≡ gives 0
   walk-ends e = walked ∙ rw e
 
-  pub walk-refused : (n p : ℕ) → stepUnder limit s (cursor offset false) ≡ refuses n p → walkFrom limit strict s l position offset ≡ refuses n (l .base + p)
+  pub walk-refused : (n p : ℕ) → stepUnder limit s (cursor offset false) ≡ refuses n p
+      → walkFrom limit strict s l position offset ≡ refuses n (l .base + p)
   walk-refused n p e = walked ∙ rw e
 
   pub walk-onward : (e : Element) → stepUnder limit s (cursor offset false) ≡ gives (yield e)
       → walkFrom limit strict s l position offset
-      ≡ (then (opened strict (walkUnder limit strict) s l position e) λ n. then (walkFrom limit strict s l (suc position) (past e)) λ m. gives (n + m))
+      ≡ (then (opened strict (walkUnder limit strict) s l position e) λ n. then
+      (walkFrom limit strict s l (suc position) (past e)) λ m. gives (n + m))
   walk-onward e y = walked ∙ rw y
 
 -- a document has no more values than bytes
-module _ (strict : Bool) (s : List ℕ) (w : Walk) (h : (v : List ℕ) (k : Level) (n : ℕ) → length v < length s → w v k ≡ gives n → n ≤ length v) where
-  inside-few : (l : Level) (position : ℕ) (c : Cursor) (e : Element) → FramedAt s c e → (o : Opening) → visit strict s l position e ≡ gives o
+module _ (strict : Bool) (s : List ℕ) (w : Walk)
+    (h : (v : List ℕ) (k : Level) (n : ℕ) → length v < length s → w v k ≡ gives n → n ≤ length v) where
+  inside-few : (l : Level) (position : ℕ) (c : Cursor) (e : Element) → FramedAt s c e → (o : Opening)
+      → visit strict s l position e ≡ gives o
       → (n : ℕ) → inside w s l o ≡ gives n → n ≤ e .value .size
   inside-few l position c e y closed q n x = let z : 0 ≡ n = gives-injective x in omega arith
   inside-few l position c e y (opens isArray levels p) q n x =
@@ -115,7 +124,8 @@ module _ (strict : Bool) (s : List ℕ) (w : Walk) (h : (v : List ℕ) (k : Leve
       let i : 1 + k ≡ n = gives-injective x2 in
       omega (arith, inside-few l position c e y o q k z)
 
-  along-few : (l : Level) (position offset : ℕ) (i : Iteration) → Each s offset i → (n : ℕ) → along strict w s l position i ≡ gives n → n ≤ length s - offset
+  along-few : (l : Level) (position offset : ℕ) (i : Iteration) → Each s offset i → (n : ℕ) → along strict w s l position i ≡ gives n
+      → n ≤ length s - offset
   along-few l position offset ended g n x = let z : 0 ≡ n = gives-injective x in omega arith
   along-few l position offset (broken k p) g n x = never x
   along-few l position offset (more e rest) g n x =
@@ -125,12 +135,14 @@ module _ (strict : Bool) (s : List ℕ) (w : Walk) (h : (v : List ℕ) (k : Leve
       let y = g .0 in
       omega (arith, opened-few l position (cursor offset false) e y a q, along-few l (suc position) (past e) rest (g .1) m z)
 
-few-for : (limit : Limit) (f : ℕ) (strict : Bool) (s : List ℕ) (l : Level) (n : ℕ) → length s < f → walkUnder limit strict s l ≡ gives n → n ≤ length s
+few-for : (limit : Limit) (f : ℕ) (strict : Bool) (s : List ℕ) (l : Level) (n : ℕ) → length s < f → walkUnder limit strict s l ≡ gives n
+    → n ≤ length s
 few-for limit zero strict s l n i x = absurd (omega arith)
 few-for limit (suc f) strict s l n i x =
     omega (
       arith,
-      along-few strict s (walkUnder limit strict) (λ v k m j y. few-for limit f strict v k m (omega arith) y) l 0 4 (iterateUnder limit s 4) (iterate-each limit s 4) n
+      along-few strict s (walkUnder limit strict) (λ v k m j y. few-for limit f strict v k m (omega arith) y) l 0 4 (iterateUnder limit s 4)
+          (iterate-each limit s 4) n
           (sym (walk-eq limit strict s l) ∙ x),
     )
 

@@ -75,7 +75,8 @@ cstring-splits v k e =
     rw (← i, add-one) (split-at v (firstZero v) 0 l ∙ ap (λ (b : ℕ). take (firstZero v) v ++ (b ∷ drop (suc (firstZero v)) v)) z)
 
 -- before the first that passes there are as many in a list's first n, where they are that many or fewer
-pub before-cut : (test : ℕ → Bool) (n : ℕ) (v : List ℕ) → before test (take n v) < length (take n v) → before test (take n v) ≡ before test v
+pub before-cut : (test : ℕ → Bool) (n : ℕ) (v : List ℕ) → before test (take n v) < length (take n v)
+    → before test (take n v) ≡ before test v
 before-cut test zero v h = absurd (not-suc-le-zero h)
 before-cut test (suc n) [] h = refl
 before-cut test (suc n) (b ∷ v) h =
@@ -90,13 +91,15 @@ cut-short (suc n) [] = (omega arith, omega arith)
 cut-short (suc n) (b ∷ v) = let (i, j) = cut-short n v in (omega arith, omega arith)
 
 -- a text whose zero a limit lets be seen is answered as without one
-pub cstring-seen : (m : ℕ) (v : List ℕ) → ltb (firstZero (take (m + 1) v)) (length (take (m + 1) v)) ≡ true → cstringUnder (most m) v ≡ cstring v
+pub cstring-seen : (m : ℕ) (v : List ℕ) → ltb (firstZero (take (m + 1) v)) (length (take (m + 1) v)) ≡ true
+    → cstringUnder (most m) v ≡ cstring v
 unfolding zeroText cstringUnder
 cstring-seen m v t =
     let w = take (m + 1) v in
     let l = ltb-true (firstZero w) (length w) t in
     let i = before-cut isZero (m + 1) v l in
-    let c : take (firstZero w) w ≡ take (firstZero v) v = take-take (firstZero w) (m + 1) v (omega (arith, cut-short (m + 1) v)) ∙ ap (λ (n : ℕ). take n v) i in
+    let c : take (firstZero w) w ≡ take (firstZero v) v = take-take (firstZero w) (m + 1) v (omega (arith, cut-short (m + 1) v))
+    ∙ ap (λ (n : ℕ). take n v) i in
     let d : firstZero v < length v = omega (arith, cut-short (m + 1) v) in
     rw (t, lt-ltb _ _ d, c, i)
 
@@ -150,7 +153,8 @@ unfolding cstringUnder
 cstring-first m v w e = ap (zeroText 22) e
 
 -- where no zero is seen, 22, whatever is behind
-pub cstring-unseen : (m : ℕ) (v : List ℕ) → ltb (firstZero (take (m + 1) v)) (length (take (m + 1) v)) ≡ false → cstringUnder (most m) v ≡ refuses 22 0
+pub cstring-unseen : (m : ℕ) (v : List ℕ) → ltb (firstZero (take (m + 1) v)) (length (take (m + 1) v)) ≡ false
+    → cstringUnder (most m) v ≡ refuses 22 0
 unfolding zeroText cstringUnder
 cstring-unseen m v t = rw t
 

@@ -48,7 +48,8 @@ width-within zero n h = omega (arith, width-digit n h)
 width-within (suc k) n h =
     split (ltb n 10)
     (λ e. omega (arith, width-digit n (ltb-true n 10 e)))
-    (λ e. omega (arith, width-eq n (ltb-false n 10 e), width-within k (n / 10) (div-lt-iff-lt-mul (omega arith) .1 (rw (← pow-suc 10 (suc k)) h))))
+    (λ e. omega
+    (arith, width-eq n (ltb-false n 10 e), width-within k (n / 10) (div-lt-iff-lt-mul (omega arith) .1 (rw (← pow-suc 10 (suc k)) h))))
 
 -- one that is not below it has more than it has zeros
 pub width-above : (k n : ℕ) → 10 ^ k ≤ n → suc k ≤ width n

@@ -10,7 +10,8 @@ use Rattle.bson.specs.Answer.{gives, refuses}
 use Rattle.bson.specs.Bytes.{le32, natural, Part, part}
 use Rattle.bson.specs.Cstring.{Limit, most, cstringUnder, cstring}
 use Rattle.bson.specs.Tags.{Sized, fixed, asString, asPointer, asDocument, asBinary, asRegex, asScope, sizedOf}
-use Rattle.bson.specs.Framing.{lengthField, fits, inFront, zeroEnded, stringSize, pointerSize, documentSize, binarySize, scopeSize, patternOptions}
+use Rattle.bson.specs.Framing.{lengthField, fits, inFront, zeroEnded, stringSize, pointerSize, documentSize, binarySize, scopeSize}
+use Rattle.bson.specs.Framing.{patternOptions}
 use Rattle.bson.specs.Framing.{regexSize, framed, valueSize, framedUnder, patternOptionsUnder, regexSizeUnder, valueSizeUnder}
 use Rattle.laws.proofs.Common.{split}
 use Rattle.laws.proofs.CstringLaws.{cstring-below, cstring-under, cstring-most, cstring-kept}
@@ -150,7 +151,8 @@ unfolding valueSizeUnder
 value-size-fits tag v n e = let (z, q, h) = then-gives (sizedOf tag) _ e in framed-fits z v n h
 
 -- a size that is given under a limit is given without one
-pub pattern-options-under : (limit : Limit) (v : List ℕ) (r : Part × Part) → patternOptionsUnder limit v ≡ gives r → patternOptions v ≡ gives r
+pub pattern-options-under : (limit : Limit) (v : List ℕ) (r : Part × Part) → patternOptionsUnder limit v ≡ gives r
+    → patternOptions v ≡ gives r
 unfolding patternOptionsUnder
 pattern-options-under limit v r e =
     let (p, q, h) = then-gives (cstringUnder _ v) _ e in
@@ -158,7 +160,8 @@ pattern-options-under limit v r e =
     rw (cstring-under _ v p q, cstring-under _ (drop (p + 1) v) o u) g
 
 -- a pattern and options that a limit lets through have no more bytes than it says, and the other way round
-pub pattern-options-most : (m : ℕ) (v : List ℕ) (r : Part × Part) → patternOptionsUnder (most m) v ≡ gives r → (r .0 .size ≤ m) × (r .1 .size ≤ m)
+pub pattern-options-most : (m : ℕ) (v : List ℕ) (r : Part × Part) → patternOptionsUnder (most m) v ≡ gives r
+    → (r .0 .size ≤ m) × (r .1 .size ≤ m)
 unfolding patternOptionsUnder
 pattern-options-most m v r e =
     let (p, q, h) = then-gives (cstringUnder _ v) _ e in

@@ -1,5 +1,5 @@
--- Numbers, texts and documents that are framed and read have just the bytes that the grammar gives them: the way back from GrammarLaws (BSON
--- 1.1, "Basic Types" and "Specification").
+-- Numbers, texts and documents that are framed and read have just the bytes that the grammar gives them: the way back from GrammarLaws
+-- (BSON 1.1, "Basic Types" and "Specification").
 use Prim.Native.Nat.{ℕ, suc, _+_, _*_, _-_, _/_, _%_, _≤_, _<_}
 use mathlib.Core.Path.{_≡_, refl, sym, ap, _∙_}
 use mathlib.Core.List.{List, [], _∷_, _++_, append-assoc}
@@ -33,7 +33,8 @@ take-are : (n : ℕ) (s : List ℕ) → AreBytes s → AreBytes (take n s)
 take-are n s b i =
     split (ltb i n)
     (λ t. rw (getD-take n s i 0 (ltb-true i n t)) (b i))
-    (λ t. let h : length (take n s) ≤ i = omega (arith, ltb-false i n t, length-take n s) in rw (List·getD-eq-default (take n s) 0 h) (omega arith))
+    (λ t. let h : length (take n s) ≤ i = omega (arith, ltb-false i n t, length-take n s) in
+    rw (List·getD-eq-default (take n s) 0 h) (omega arith))
 
 pub bytes-are : (s : List ℕ) (p : Part) → AreBytes s → AreBytes (bytes s p)
 unfolding bytes
@@ -50,7 +51,8 @@ unfolding le64
 le64-below v b = omega (arith, le32-below v b, le32-below (drop 4 v) (drop-are 4 v b))
 
 -- the digits of a number of four bytes are the bytes
-digits-back : (a b c d : ℕ) → a < 256 → b < 256 → c < 256 → d < 256 → bytes32 (a + 256 * b + 65536 * c + 16777216 * d) ≡ a ∷ (b ∷ (c ∷ (d ∷ [])))
+digits-back : (a b c d : ℕ) → a < 256 → b < 256 → c < 256 → d < 256
+    → bytes32 (a + 256 * b + 65536 * c + 16777216 * d) ≡ a ∷ (b ∷ (c ∷ (d ∷ [])))
 unfolding bytes32
 digits-back a b c d h i j k =
     let n = a + 256 * b + 65536 * c + 16777216 * d in
@@ -132,7 +134,8 @@ timestamp-back w b l =
 -- texts and documents
 
 -- a text without its length and its zero
-text-back : (v : List ℕ) (n : ℕ) → 5 ≤ n → n ≤ length v → getD v (n - 1) 0 ≡ 0 → bytes v (part 4 (n - 5)) ++ (0 ∷ []) ≡ take (n - 4) (drop 4 v)
+text-back : (v : List ℕ) (n : ℕ) → 5 ≤ n → n ≤ length v → getD v (n - 1) 0 ≡ 0
+    → bytes v (part 4 (n - 5)) ++ (0 ∷ []) ≡ take (n - 4) (drop 4 v)
 unfolding bytes
 text-back v n l h z =
     let w = drop 4 v in
@@ -180,7 +183,8 @@ old-binary-back w b l t h e =
     let f = length-drop 9 w in
     let i : length (drop 9 w) + 4 ≡ length d = omega arith in
     let j : length (drop 9 w) ≡ le32 d = omega arith in
-    let k : bytes32 (le32 d) ++ drop 9 w ≡ d = rw (bytes32-back d (drop-are 5 w b) (omega arith), ← drop-drop 4 5 w) (take-append-drop 4 d) in
+    let k : bytes32 (le32 d) ++ drop 9 w
+    ≡ d = rw (bytes32-back d (drop-are 5 w b) (omega arith), ← drop-drop 4 5 w) (take-append-drop 4 d) in
     rw (i, j, k, ← eqb-true (getD w 4 0) 2 t) (binary-front w b l)
 
 -- a code with its scope: the length of all of it, the code as a string, and what is behind
@@ -193,7 +197,8 @@ scope-back w n b l e =
     let k : 4 + length c ≡ le32 w = omega (arith, length-drop 4 w, string-is c n e) in
     rw (t, ← drop-drop n 4 w, take-append-drop n c, k, bytes32-back w b (omega (arith, length-drop 4 w))) (sym (take-append-drop 4 w))
 
-pub document-back : (s : List ℕ) (m : ℕ) → AreBytes s → admitted s ≡ gives m → (list : List ℕ) → drop 4 s ≡ list ++ (0 ∷ []) → documentOf list ≡ s
+pub document-back : (s : List ℕ) (m : ℕ) → AreBytes s → admitted s ≡ gives m → (list : List ℕ) → drop 4 s ≡ list ++ (0 ∷ [])
+    → documentOf list ≡ s
 unfolding documentOf
 document-back s m b a list e =
     let (least, _, _, size, _) = admitted-says s m a in
@@ -238,4 +243,5 @@ regex-alone v n e =
     let alone : take n v ≡ a ++ (0 ∷ (o ++ (0 ∷ []))) =
     ap (λ (k : ℕ). take k v) (r .size) ∙ ap (take (length (a ++ (0 ∷ (o ++ (0 ∷ [])))))) (r .is) ∙ take-append-seam _ (r .behind) in
     let said = pattern-options-of a o [] (r .pattern-valid) (r .options-valid) in
-    ap patternOptions alone ∙ said ∙ sym (ap patternOptions behind ∙ pattern-options-of a o (r .behind) (r .pattern-valid) (r .options-valid))
+    ap patternOptions alone ∙ said
+    ∙ sym (ap patternOptions behind ∙ pattern-options-of a o (r .behind) (r .pattern-valid) (r .options-valid))

@@ -14,7 +14,8 @@ use Rattle.bson.specs.Answer.{gives, then}
 use Rattle.bson.specs.Bytes.{le32, le64, i32, i64, signed, part}
 use Rattle.bson.specs.Utf8.{utf8}
 use Rattle.bson.specs.Cstring.{isZero, firstZero, cstring, validCstr, cstringUnder, zeroText}
-use Rattle.bson.specs.Framing.{lengthField, fits, inFront, zeroEnded, stringSize, pointerSize, documentSize, binarySize, scopeSize, patternOptions}
+use Rattle.bson.specs.Framing.{lengthField, fits, inFront, zeroEnded, stringSize, pointerSize, documentSize, binarySize, scopeSize}
+use Rattle.bson.specs.Framing.{patternOptions}
 use Rattle.bson.specs.Framing.{regexSize, patternOptionsUnder, regexSizeUnder}
 use Rattle.bson.specs.Step.{admitted}
 use Rattle.bson.specs.Grammar.{bytes32, bytes64, unsigned, stringBytes, elementBytes, documentOf, Ranged}
@@ -103,7 +104,8 @@ pattern-options-of p o rest h k =
 -- tests that hold
 
 module _ (v : List ℕ) where
-  length-field-of : (present least n : ℕ) → le32 v ≡ n → present ≤ length v → least ≤ n → n < 2147483648 → lengthField present least v ≡ gives n
+  length-field-of : (present least n : ℕ) → le32 v ≡ n → present ≤ length v → least ≤ n → n < 2147483648
+      → lengthField present least v ≡ gives n
   unfolding lengthField
   length-field-of present least n e p l h = rw (e, le-leb _ _ p, le-leb _ _ l, lt-ltb _ _ h)
 
@@ -161,7 +163,8 @@ string-of t rest small =
     rw (length-string t, ahead (length t + 1) t rest)
     (ended-of (length t + 1) t rest (λ k. 4 + k) 4 1 (omega arith) (omega arith) (omega arith) small)
 
-pub document-of : (list rest : List ℕ) → length list + 5 < 2147483648 → documentSize (documentOf list ++ rest) ≡ gives (length (documentOf list))
+pub document-of : (list rest : List ℕ) → length list + 5 < 2147483648
+    → documentSize (documentOf list ++ rest) ≡ gives (length (documentOf list))
 unfolding documentSize documentOf
 document-of list rest small =
     rw (length-document list, ahead (length list + 5) list rest)
@@ -191,7 +194,8 @@ pointer-of t id rest e h =
     let v = stringBytes t ++ (id ++ rest) in
     let l : length v ≡ length (stringBytes t) + (12 + length rest) = simp length-append (omega arith) in
     let i : length (stringBytes t) + 12 ≡ length (stringBytes t ++ id) = simp length-append (omega arith) in
-    rw (append-assoc (stringBytes t) id rest, string-of t (id ++ rest) h) (fits-of v (length (stringBytes t) + 12) (omega arith) ∙ ap gives i)
+    rw (append-assoc (stringBytes t) id rest, string-of t (id ++ rest) h)
+    (fits-of v (length (stringBytes t) + 12) (omega arith) ∙ ap gives i)
 
 pub binary-of : (n subtype : ℕ) (d rest : List ℕ) → n ≡ length d → n < 2147483648
     → binarySize (bytes32 n ++ (subtype ∷ d) ++ rest) ≡ gives (length (bytes32 n ++ (subtype ∷ d)))

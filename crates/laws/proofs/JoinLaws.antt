@@ -1,5 +1,5 @@
--- What follows from the definition of joining: how long the joined document is, that a refusal leaves the buffer as it was, and that the bytes
--- behind stay (document 01, "Writer and joining").
+-- What follows from the definition of joining: how long the joined document is, that a refusal leaves the buffer as it was, and that the
+-- bytes behind stay (document 01, "Writer and joining").
 use Prim.Native.Nat.{ℕ, _+_, _-_, _≤_}
 use mathlib.Core.Path.{_≡_, refl, sym, ap, _∙_}
 use mathlib.Core.List.{List, [], _∷_, _++_, append-assoc}
@@ -33,7 +33,9 @@ check-admits strict s n e = by (admitted s) refl
   where
     by : (a : Answer ℕ) → admitted s ≡ a → 5 ≤ length s
     by (gives m) q = admitted-says s m q .0
-    by (refuses k p) q = never (sym (walk-eq _ strict s outermost ∙ walk-refused _ strict s outermost 0 4 k p (step-unadmitted _ s (cursor 4 false) k p q)) ∙ e)
+    by (refuses k p) q =
+        never (sym (walk-eq _ strict s outermost ∙ walk-refused _ strict s outermost 0 4 k p (step-unadmitted _ s (cursor 4 false) k p q))
+        ∙ e)
 
 length-body : (s : List ℕ) → 5 ≤ length s → length (body s) ≡ length s - 5
 unfolding body
@@ -58,7 +60,8 @@ module _ (first second : List ℕ) (a : 5 ≤ length first) (b : 5 ≤ length se
 
   -- as the code puts them: the length, both bodies and the terminator, one after the other
   pub bodies-put : (buffer : List ℕ) (size : ℕ) (o : Output) → size ≡ length first + length second - 5 → size ≤ length buffer
-      → o ≡ putTexts (output buffer 0) (bytes32 size ∷ body first ∷ body second ∷ (0 ∷ []) ∷ []) → o .buffer ≡ put buffer 0 (both first second)
+      → o ≡ putTexts (output buffer 0) (bytes32 size ∷ body first ∷ body second ∷ (0 ∷ []) ∷ [])
+      → o .buffer ≡ put buffer 0 (both first second)
   bodies-put buffer size o e h q =
       let texts : List (List ℕ) = bytes32 size ∷ body first ∷ body second ∷ (0 ∷ []) ∷ [] in
       let same : Texts.joined texts ≡ both first second = pieces size e in
@@ -115,8 +118,10 @@ module _ (first second buffer : List ℕ) where
       let f2 = sym (ap (λ (j : Joined). j .outcome) e2) ∙ f1 in
       let (m, x, e3) = passed 0 (sizeOfBoth first second (room (length buffer))) buffer _ n f2 in
       let (t, x1) = unless-gives (leb (length first + length second - 5) (room (length buffer))) 14 _ x in
-      let size : length first + length second - 5 ≡ n = gives-injective x1 ∙ wrote-injective (sym (ap (λ (j : Joined). j .outcome) e3) ∙ f2) in
-      let long : length (both first second) ≡ n = length-both first second (check-admits false first a q) (check-admits false second b r) ∙ size in
+      let size : length first + length second - 5 ≡ n = gives-injective x1
+      ∙ wrote-injective (sym (ap (λ (j : Joined). j .outcome) e3) ∙ f2) in
+      let long : length (both first second) ≡ n = length-both first second (check-admits false first a q) (check-admits false second b r)
+      ∙ size in
       let front : n ≡ 0 + length (both first second) = omega arith in
       let fits = leb-true (length first + length second - 5) (room (length buffer)) t in
       let within = room-within (length buffer) .0 in
@@ -125,6 +130,7 @@ module _ (first second buffer : List ℕ) where
         first-passes = (a, q);
         second-passes = (b, r);
         sum = sym size;
-        written = rw left (ap (λ (i : ℕ). take i (put buffer 0 (both first second))) front ∙ take-put buffer 0 (both first second) (omega arith));
+        written =
+            rw left (ap (λ (i : ℕ). take i (put buffer 0 (both first second))) front ∙ take-put buffer 0 (both first second) (omega arith));
         behind = rw left (drop-put buffer 0 (both first second) (omega arith) n (omega arith));
       }

@@ -1,5 +1,5 @@
--- What a limit on keys, patterns and options changes: where reading a zero-ended text answers the same under two limits, or 22 under the first,
--- so does every call (document 02, request 2).
+-- What a limit on keys, patterns and options changes: where reading a zero-ended text answers the same under two limits, or 22 under the
+-- first, so does every call (document 02, request 2).
 use Prim.Native.Nat.{ℕ, zero, suc, _+_, _≤_}
 use mathlib.Core.Path.{_≡_, refl}
 use mathlib.Core.List.{List}
@@ -31,7 +31,8 @@ module _ {P : Type 0} {A : Type 0} where
   then-stays (gives a) h = h a
   then-stays (refuses n p) h = stays
 
-  then-turns : {B : Type 0} {x y : Answer A} {f g : A → Answer B} → Turns P x y → ((a : A) → Turns P (f a) (g a)) → Turns P (then x f) (then y g)
+  then-turns : {B : Type 0} {x y : Answer A} {f g : A → Answer B} → Turns P x y → ((a : A) → Turns P (f a) (g a))
+      → Turns P (then x f) (then y g)
   then-turns (stays {x = x}) h = then-stays x h
   then-turns (turns p) h = turns p
 
@@ -58,7 +59,8 @@ onward-stays (gives (yield e)) h = further e (h (past e))
 onward-stays (gives end) h = goes-on
 onward-stays (refuses n p) h = goes-on
 
-onward-turns : {P : Type 0} {x y : Answer Step} {f g : ℕ → Iteration} → Turns P x y → ((o : ℕ) → Breaks P (f o) (g o)) → Breaks P (onward x f) (onward y g)
+onward-turns : {P : Type 0} {x y : Answer Step} {f g : ℕ → Iteration} → Turns P x y → ((o : ℕ) → Breaks P (f o) (g o))
+    → Breaks P (onward x f) (onward y g)
 onward-turns (stays {x = x}) h = onward-stays x h
 onward-turns (turns p) h = breaks p
 
@@ -73,7 +75,8 @@ unfolding bytes
 part-shorter s p = omega (arith, cut-short (p .size) (drop (p .offset) s), length-drop (p .offset) s)
 
 -- walks of two limits that answer alike on all slices up to a length
-module _ {P : Type 0} (bound : ℕ) (w x : Walk) (h : (v : List ℕ) (k : Level) → length v ≤ bound → Turns P (w v k) (x v k)) (strict : Bool) where
+module _ {P : Type 0} (bound : ℕ) (w x : Walk) (h : (v : List ℕ) (k : Level) → length v ≤ bound → Turns P (w v k) (x v k))
+    (strict : Bool) where
   inside-turns : (s : List ℕ) (l : Level) → length s ≤ bound → (o : Opening) → Turns P (inside w s l o) (inside x s l o)
   inside-turns s l i closed = stays
   inside-turns s l i (opens isArray levels p) = h _ _ (omega (arith, part-shorter s p))
@@ -94,7 +97,8 @@ module _ {P : Type 0} (bound : ℕ) (w x : Walk) (h : (v : List ℕ) (k : Level)
   along-turns s l k position (breaks p) = turns p
 
 -- two limits under which zero-ended texts are answered alike, of all slices up to a length
-module _ (P : Type 0) (a b : Limit) (bound : ℕ) (text : (v : List ℕ) → length v ≤ bound → Turns P (cstringUnder a v) (cstringUnder b v)) where
+module _ (P : Type 0) (a b : Limit) (bound : ℕ)
+    (text : (v : List ℕ) → length v ≤ bound → Turns P (cstringUnder a v) (cstringUnder b v)) where
   rest-turns : (s : List ℕ) (n : ℕ) → length s ≤ bound → Turns P (cstringUnder a (drop n s)) (cstringUnder b (drop n s))
   rest-turns s n i = text (drop n s) (omega (arith, length-drop n s))
 
@@ -112,7 +116,8 @@ module _ (P : Type 0) (a b : Limit) (bound : ℕ) (text : (v : List ℕ) → len
   framed-turns asRegex v i = then-turns (pattern-turns v i) (λ r. stays)
   framed-turns asScope v i = stays
 
-  size-turns : (tag : ℕ) (s : List ℕ) (n : ℕ) → length s ≤ bound → Turns P (valueSizeUnder a tag (drop n s)) (valueSizeUnder b tag (drop n s))
+  size-turns : (tag : ℕ) (s : List ℕ) (n : ℕ) → length s ≤ bound
+      → Turns P (valueSizeUnder a tag (drop n s)) (valueSizeUnder b tag (drop n s))
   unfolding valueSizeUnder
   size-turns tag s n i = then-stays (sizedOf tag) (λ z. framed-turns z (drop n s) (omega (arith, length-drop n s)))
 
@@ -139,7 +144,8 @@ module _ (P : Type 0) (a b : Limit) (bound : ℕ) (text : (v : List ℕ) → len
   unfolding readAtUnder
   read-turns s place i = then-turns (element-at-turns s place i) (λ e. stays)
 
-  pub read-with-turns : (s : List ℕ) (place tag : ℕ) → length s ≤ bound → Turns P (readWithUnder a s place tag) (readWithUnder b s place tag)
+  pub read-with-turns : (s : List ℕ) (place tag : ℕ) → length s ≤ bound
+      → Turns P (readWithUnder a s place tag) (readWithUnder b s place tag)
   unfolding readWithUnder
   read-with-turns s place tag i = then-turns (element-at-turns s place i) (λ e. stays)
 
@@ -160,7 +166,8 @@ module _ (P : Type 0) (a b : Limit) (bound : ℕ) (text : (v : List ℕ) → len
   unfolding getWithUnder
   get-with-turns s key tag i = then-turns (get-turns s key i) (λ f. stays)
 
-  walk-turns : (n : ℕ) (strict : Bool) (s : List ℕ) (l : Level) → length s ≤ bound → Turns P (walkFor a n strict s l) (walkFor b n strict s l)
+  walk-turns : (n : ℕ) (strict : Bool) (s : List ℕ) (l : Level) → length s ≤ bound
+      → Turns P (walkFor a n strict s l) (walkFor b n strict s l)
   unfolding walkFor
   walk-turns zero strict s l i = stays
   walk-turns (suc n) strict s l i =

@@ -1,5 +1,5 @@
--- Lookup goes from step to step: what each answer of the step at an offset means for the search from there; what is found is had again at its
--- place, and lies in the slice; and a typed getter gives the number of the value found (document 01, "Values").
+-- Lookup goes from step to step: what each answer of the step at an offset means for the search from there; what is found is had again at
+-- its place, and lies in the slice; and a typed getter gives the number of the value found (document 01, "Values").
 use Prim.Native.Nat.{ℕ, zero, suc, _+_, _≤_}
 use mathlib.Core.Path.{_≡_, refl, sym, ap, subst, _∙_}
 use mathlib.Core.List.{List}
@@ -124,7 +124,8 @@ module _ (s key : List ℕ) (f : Found) where
   unfolding rowOf tags content
   get-bool-reads = typed-reads bool boolean Boolean s key 0x08 f refl (λ p. refl)
 
-  pub get-datetime-reads : getWith s key 0x09 ≡ gives f → (n : ℤ) × (typed (inFront 8 i64) s key 0x09 ≡ gives n) × (f .value ≡ leaf (dateTime n))
+  pub get-datetime-reads : getWith s key 0x09 ≡ gives f
+      → (n : ℤ) × (typed (inFront 8 i64) s key 0x09 ≡ gives n) × (f .value ≡ leaf (dateTime n))
   unfolding rowOf tags content
   get-datetime-reads = typed-reads (inFront 8 i64) dateTime DateTime s key 0x09 f refl (λ p. refl)
 

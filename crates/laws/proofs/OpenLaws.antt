@@ -25,7 +25,8 @@ use Rattle.laws.specs.FramedAt.{FramedAt}
 use Rattle.laws.proofs.StepLaws.{admitted-says}
 use Tags.{ElementType, Boolean, Int32, Double, Int64, DateTime, Timestamp, ObjectId, Decimal128, Null, Undefined, MinKey, MaxKey}
 use Tags.{String, JavaScriptCode, Symbol, DbPointer, EmbeddedDocument, Array, Binary, RegularExpression, JavaScriptCodeWithScope, typeOf}
-use Value.{Leaf, Value, leaf, document, array, codeWithScope, asLeaf, bool, timestampOf, text, binaryValue, scopeValue, content, valueIn, valueOf}
+use Value.{Leaf, Value, leaf, document, array, codeWithScope, asLeaf, bool, timestampOf, text, binaryValue, scopeValue, content, valueIn}
+use Value.{valueOf}
 
 -- a claim that every leaf meets holds of a value where it holds of what the value opens
 module _ (P : Value → Type 0) (leafy : (x : Leaf) → P (leaf x)) (v : Value) where
@@ -70,7 +71,8 @@ module _ (P : Value → Type 0) (leafy : (x : Leaf) → P (leaf x)) (v : Value) 
     content-case RegularExpression f e = let (r, q, g) = then-gives (patternOptions (bytes s w)) _ e in leaf-case g
     content-case JavaScriptCodeWithScope f e = of-scope e
 
--- what a code with scope that is read says: where its scope starts, that its code is framed and UTF-8, that the scope is admitted, and where both lie
+-- what a code with scope that is read says: where its scope starts, that its code is framed and UTF-8, that the scope
+-- is admitted, and where both lie
 pub record Scoped (b : List ℕ) (w : Part) (v : Value) : Type 0 where
   pub start : ℕ
   pub length-of : ℕ
@@ -152,7 +154,8 @@ whole-opens s w f =
       admits = framed-admitted (drop (w .offset) s) (w .size) f;
     }
 
-scope-opens : (s : List ℕ) (w : Part) (v : Value) → w .offset + w .size ≤ length s → scopeValue (bytes s w) w ≡ gives v → OpensIn s w (opening v)
+scope-opens : (s : List ℕ) (w : Part) (v : Value) → w .offset + w .size ≤ length s → scopeValue (bytes s w) w ≡ gives v
+    → OpensIn s w (opening v)
 unfolding opening
 scope-opens s w v h e =
     let r = scope-says (bytes s w) w v e in
@@ -192,7 +195,8 @@ module _ (s : List ℕ) (c : Cursor) (e : Element) (y : FramedAt s c e) (v : Val
       (scope-opens s (e .value) v (y .inside))
 
   -- what the value of a yielded element opens is a document inside it
-  pub value-opens : valueOf s e ≡ gives v → (isArray : Bool) (levels : ℕ) (p : Part) → opening v ≡ opens isArray levels p → Opens s (e .value) p
+  pub value-opens : valueOf s e ≡ gives v → (isArray : Bool) (levels : ℕ) (p : Part) → opening v ≡ opens isArray levels p
+      → Opens s (e .value) p
   value-opens x isArray levels p o = subst (OpensIn s (e .value)) o (opens-in x)
 
 -- and is shorter than the slice

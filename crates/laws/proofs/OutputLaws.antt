@@ -33,7 +33,8 @@ put-paste buffer at s = simp (take-length, append-assoc)
 further : (m n : ℕ) (a b : List ℕ) → m ≤ n → drop m a ≡ drop m b → drop n a ≡ drop n b
 further m n a b h e =
     let k : m + (n - m) ≡ n = omega arith in
-    ap (λ (i : ℕ). drop i a) (sym k) ∙ sym (drop-drop (n - m) m a) ∙ ap (drop (n - m)) e ∙ drop-drop (n - m) m b ∙ ap (λ (i : ℕ). drop i b) k
+    ap (λ (i : ℕ). drop i a) (sym k) ∙ sym (drop-drop (n - m) m a) ∙ ap (drop (n - m)) e ∙ drop-drop (n - m) m b
+    ∙ ap (λ (i : ℕ). drop i b) k
 
 module _ (buffer : List ℕ) (at : ℕ) (s : List ℕ) (fits : at + length s ≤ length buffer) where
   front-length : length (take at buffer ++ s) ≡ at + length s
@@ -95,7 +96,8 @@ put-over a b c s h =
 -- a text that fits, and one that does not
 
 module _ (buffer : List ℕ) (used : ℕ) (text : List ℕ) where
-  pub text-fits : used + length text ≤ length buffer → putText (output buffer used) text ≡ output (put buffer used text) (used + length text)
+  pub text-fits : used + length text ≤ length buffer
+      → putText (output buffer used) text ≡ output (put buffer used text) (used + length text)
   unfolding putText
   text-fits h = simp (le-leb _ _ h)
 
@@ -153,7 +155,8 @@ text-behind o text =
     (λ t. rw (← text-left (o .buffer) (o .used) text _ refl t) (refl, omega arith))
 
 pub texts-behind : (o : Output) (texts : List (List ℕ))
-    → (drop (putTexts o texts .used) (putTexts o texts .buffer) ≡ drop (putTexts o texts .used) (o .buffer)) × (o .used ≤ putTexts o texts .used)
+    → (drop (putTexts o texts .used) (putTexts o texts .buffer) ≡ drop (putTexts o texts .used) (o .buffer))
+    × (o .used ≤ putTexts o texts .used)
 texts-behind o [] = (refl, omega arith)
 texts-behind o (t ∷ ts) =
     let x = text-behind o t in

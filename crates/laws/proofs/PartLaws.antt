@@ -75,7 +75,8 @@ module _ (s : List ℕ) (w : Part) (v : Value) (inside : w .offset + w .size ≤
       let i = bytes-length s w inside in
       subst (BothEnd (length s)) (r .is) (omega arith, omega arith)
 
-  content-parts : (t : ElementType) → framed (sizeFor t) (drop (w .offset) s) ≡ gives (w .size) → content s w t ≡ gives v → BothEnd (length s) v
+  content-parts : (t : ElementType) → framed (sizeFor t) (drop (w .offset) s) ≡ gives (w .size) → content s w t ≡ gives v
+      → BothEnd (length s) v
   unfolding content framedUnder partsOf
   content-parts Boolean f e = number (length s) v _ (bool (bytes s w)) e (λ x. (omega arith, omega arith))
   content-parts Int32 f e = number (length s) v _ (inFront 4 i32 (bytes s w)) e (λ x. (omega arith, omega arith))

@@ -1,5 +1,5 @@
--- Every reading call, and joining, refuses by numbers that document 01, "Numbers returned", gives it, so never by 0: the fuel of the iteration
--- and of the walk does not run out.
+-- Every reading call, and joining, refuses by numbers that document 01, "Numbers returned", gives it, so never by 0: the fuel of the
+-- iteration and of the walk does not run out.
 use Prim.Native.Nat.{ℕ, zero, suc, _+_, _-_, _<_}
 use mathlib.Core.Path.{_≡_, refl, sym, ap, _∙_}
 use mathlib.Core.List.{List, [], _∷_}
@@ -17,13 +17,15 @@ use Rattle.bson.specs.Framing.{lengthField, fits, inFront, zeroEnded, stringSiz
 use Rattle.bson.specs.Framing.{patternOptionsUnder, regexSizeUnder, framedUnder, valueSizeUnder, patternOptions, regexSize}
 use Rattle.bson.specs.Step.{terminator, admitted, Cursor, cursor, Element, past, elementUnder, Step, yield, end, stepUnder, yielded}
 use Rattle.bson.specs.Step.{Iteration, ended, broken, more, onward, iterateFor, iterateUnder}
-use Rattle.bson.specs.Value.{bool, timestampOf, text, binaryValue, scopeValue, content, valueIn, valueOf, ofTag, elementAtUnder, readAtUnder, readWithUnder}
+use Rattle.bson.specs.Value.{bool, timestampOf, text, binaryValue, scopeValue, content, valueIn, valueOf, ofTag, elementAtUnder}
+use Rattle.bson.specs.Value.{readAtUnder, readWithUnder}
 use Rattle.bson.specs.Lookup.{found, first, getUnder, getWithUnder, isEmpty}
 use Rattle.bson.specs.Level.{Opening, closed, opens, Level, outermost}
 use Rattle.bson.specs.Check.{Walk, keyPasses, visit, inside, opened, along, walkFor, walkUnder, checkUnder, check}
 use Rattle.bson.specs.Join.{Outcome, wrote, refused, Joined, passing, sizeOfBoth, bothPut, join}
 use Rattle.bson.specs.Writer.{room}
-use Rattle.laws.proofs.AnswerLaws.{oneOf, RefusesIn, given, by, then-in, unless-in, cond-in, at-in, refused-in, allIn, one-all-in, weaken, then-gives}
+use Rattle.laws.proofs.AnswerLaws.{oneOf, RefusesIn, given, by, then-in, unless-in, cond-in, at-in, refused-in, allIn, one-all-in}
+use Rattle.laws.proofs.AnswerLaws.{weaken, then-gives}
 use Rattle.laws.specs.FramedAt.{FramedAt}
 use Rattle.laws.proofs.StepLaws.{step-yields, Each, iterate-each}
 use Rattle.laws.proofs.CheckLaws.{visit-says}
@@ -114,7 +116,8 @@ scope-in v p =
 
 -- a value, where the texts of a regex are refused by none but these numbers
 module _ (ms : List ℕ) (w : allIn contents ms ≡ true) (s : List ℕ) where
-  content-in : (p : Part) (t : ElementType) → (t ≡ RegularExpression → RefusesIn ms (patternOptions (bytes s p))) → RefusesIn ms (content s p t)
+  content-in : (p : Part) (t : ElementType) → (t ≡ RegularExpression → RefusesIn ms (patternOptions (bytes s p)))
+      → RefusesIn ms (content s p t)
   unfolding content
   content-in p Boolean x = weaken w (then-in (bool-in (bytes s p)) (λ a q. given))
   content-in p Int32 x = weaken w (then-in (front-in 4 i32 (bytes s p)) (λ a q. given))
@@ -138,7 +141,8 @@ module _ (ms : List ℕ) (w : allIn contents ms ≡ true) (s : List ℕ) where
   content-in p RegularExpression x = then-in (x refl) (λ a q. given)
   content-in p JavaScriptCodeWithScope x = weaken w (scope-in (bytes s p) p)
 
-  value-by : (e : Element) → (typeOf (e .tag) ≡ gives RegularExpression → RefusesIn ms (patternOptions (bytes s (e .value)))) → RefusesIn ms (valueOf s e)
+  value-by : (e : Element) → (typeOf (e .tag) ≡ gives RegularExpression → RefusesIn ms (patternOptions (bytes s (e .value))))
+      → RefusesIn ms (valueOf s e)
   unfolding valueOf valueIn
   value-by e x =
       let row : RefusesIn contents (typeOf (e .tag)) = then-in (weaken refl (row-in (e .tag))) (λ r q. given) in
@@ -157,7 +161,8 @@ yielded-in s c e y =
     rw (regex-alone v (e .value .size) f, u) given
 
 module _ (limit : Limit) where
-  -- "key, [..] 6; tag, 7; framing": one list for all their tests, though a single test has fewer; "22 in the place of 5 whenever a limit is set"
+  -- "key, [..] 6; tag, 7; framing": one list for all their tests, though a single test has fewer; "22 in the
+  -- place of 5 whenever a limit is set"
   abbrev pub framings : List ℕ
   framings = 6 ∷ 7 ∷ 8 ∷ 9 ∷ 10 ∷ missing limit ∷ []
 
@@ -273,7 +278,8 @@ module _ (limit : Limit) where
   BreaksIn (broken n p) = oneOf (steps limit) n ≡ true
   BreaksIn (more e rest) = BreaksIn rest
 
-  onward-in : (x : Answer Step) (f : ℕ → Iteration) → RefusesIn (steps limit) x → ((e : Element) → x ≡ gives (yield e) → BreaksIn (f (past e)))
+  onward-in : (x : Answer Step) (f : ℕ → Iteration) → RefusesIn (steps limit) x
+      → ((e : Element) → x ≡ gives (yield e) → BreaksIn (f (past e)))
       → BreaksIn (onward x f)
   onward-in (gives (yield e)) f h g = g e refl
   onward-in (gives end) f h g = tt
@@ -296,7 +302,8 @@ module _ (limit : Limit) where
   first-in s key offset ended g h = by refl
   first-in s key offset (broken n p) g h = by (one-all-in (steps limit) (reads limit) n (steps-reads limit) h)
   first-in s key offset (more e rest) g h =
-      cond-in (same key (bytes s (e .key))) (then-in (weaken refl (yielded-in s _ e (g .0))) (λ v q. given)) (first-in s key (past e) rest (g .1) h)
+      cond-in (same key (bytes s (e .key))) (then-in (weaken refl (yielded-in s _ e (g .0))) (λ v q. given))
+      (first-in s key (past e) rest (g .1) h)
 
   pub get-in : (s key : List ℕ) → RefusesIn (reads limit) (getUnder limit s key)
   unfolding getUnder
@@ -322,7 +329,8 @@ damage-within (most m) false = refl
 damage-within (most m) true = refl
 
 -- in a plain check every key passes
-key-in : {A : Type 0} (limit : Limit) (strict : Bool) (l : Level) (position : ℕ) (key : List ℕ) {x : Answer A} → RefusesIn (checks limit strict) x
+key-in : {A : Type 0} (limit : Limit) (strict : Bool) (l : Level) (position : ℕ) (key : List ℕ) {x : Answer A}
+    → RefusesIn (checks limit strict) x
     → RefusesIn (checks limit strict) (unless (keyPasses strict l position key) 19 x)
 key-in limit false l position key h = h
 key-in limit true l position key h = unless-in (keyPasses true l position key) 19 refl h
@@ -341,7 +349,8 @@ module _ (limit : Limit) (strict : Bool) where
       (then-in (weaken (damage-within limit strict) v) (λ v q. unless-in (leb (l .depth) 200) 13 (damaged 13 refl) given)))
 
   module _ (s : List ℕ) (w : Walk) (h : (v : List ℕ) (k : Level) → length v < length s → RefusesIn (checks limit strict) (w v k)) where
-    inside-in : (l : Level) (position : ℕ) (c : Cursor) (e : Element) → FramedAt s c e → (o : Opening) → visit strict s l position e ≡ gives o
+    inside-in : (l : Level) (position : ℕ) (c : Cursor) (e : Element) → FramedAt s c e → (o : Opening)
+        → visit strict s l position e ≡ gives o
         → RefusesIn (checks limit strict) (inside w s l o)
     inside-in l position c e y closed q = given
     inside-in l position c e y (opens isArray levels p) q =
@@ -379,7 +388,8 @@ abbrev pub JoinsIn : Outcome → Type 0
 JoinsIn (wrote n) = Unit
 JoinsIn (refused n p which) = ((oneOf (damage unlimited) n ≡ true) × (oneOf (1 ∷ 2 ∷ []) which ≡ true)) ⊎ ((n ≡ 14) × (p ≡ 0) × (which ≡ 0))
 
-passing-in : {A : Type 0} (which : ℕ) (x : Answer A) (buffer : List ℕ) (f : A → Joined) → oneOf (1 ∷ 2 ∷ []) which ≡ true → RefusesIn (damage unlimited) x
+passing-in : {A : Type 0} (which : ℕ) (x : Answer A) (buffer : List ℕ) (f : A → Joined) → oneOf (1 ∷ 2 ∷ []) which ≡ true
+    → RefusesIn (damage unlimited) x
     → ((a : A) → JoinsIn (f a .outcome)) → JoinsIn (passing which x buffer f .outcome)
 passing-in which (gives a) buffer f w h g = g a
 passing-in which (refuses n p) buffer f w h g = inl (refused-in h refl, w)
@@ -412,7 +422,8 @@ no-zero z given = tt
 no-zero {ms = ms} z (by {n = n} h) = one-above ms n z h
 
 -- the same of the numbers under a limit, or none
-pub no-zero-under : {A : Type 0} (ms : Limit → List ℕ) (limit : Limit) {x : Answer A} → oneOf (ms unlimited) 0 ≡ false → ((m : ℕ) → oneOf (ms (most m)) 0 ≡ false)
+pub no-zero-under : {A : Type 0} (ms : Limit → List ℕ) (limit : Limit) {x : Answer A} → oneOf (ms unlimited) 0 ≡ false
+    → ((m : ℕ) → oneOf (ms (most m)) 0 ≡ false)
     → RefusesIn (ms limit) x → NoZero x
 no-zero-under ms unlimited u v = no-zero u
 no-zero-under ms (most m) u v = no-zero (v m)

@@ -13,7 +13,8 @@ use Rattle.bson.specs.Bytes.{le32, natural, bytes, same}
 use Rattle.bson.specs.Utf8.{utf8}
 use Rattle.bson.specs.Cstring.{Limit, isZero, firstZero, cstring, validCstr, cstringUnder, zeroText}
 use Rattle.bson.specs.Framing.{valueSize, valueSizeUnder}
-use Rattle.bson.specs.Step.{terminator, admitted, Cursor, cursor, Element, past, Step, yield, end, step, Iteration, ended, broken, more, onward}
+use Rattle.bson.specs.Step.{terminator, admitted, Cursor, cursor, Element, past, Step, yield, end, step, Iteration, ended, broken, more}
+use Rattle.bson.specs.Step.{onward}
 use Rattle.bson.specs.Step.{iterateFor, elementUnder, iterateUnder, stepUnder}
 use Rattle.laws.specs.FramedAt.{FramedAt}
 use Rattle.laws.proofs.AnswerLaws.{never, gives-injective, unless-gives, then-gives, at-gives}
@@ -151,7 +152,8 @@ key-refused s m offset n p a h e =
     (λ t. never (sym (rw (lt-ltb _ _ l, t) at e)))
     (λ t. let q : refuses 6 0 ≡ refuses n p = rw (lt-ltb _ _ l, t) at e in cc)
 
-onward-same : (x : Answer Step) (f g : ℕ → Iteration) → ((e : Element) → x ≡ gives (yield e) → f (past e) ≡ g (past e)) → onward x f ≡ onward x g
+onward-same : (x : Answer Step) (f g : ℕ → Iteration) → ((e : Element) → x ≡ gives (yield e) → f (past e) ≡ g (past e))
+    → onward x f ≡ onward x g
 onward-same (gives (yield e)) f g h = ap (more e) (h e refl)
 onward-same (gives end) f g h = refl
 onward-same (refuses n p) f g h = refl
@@ -171,7 +173,8 @@ pub iterate-eq : (limit : Limit) (s : List ℕ) (offset : ℕ)
 unfolding iterateUnder iterateFor
 iterate-eq limit s offset =
     onward-same (stepUnder limit s (cursor offset false)) (iterateFor limit (length s) s) (iterateUnder limit s)
-    (λ e x. let y = step-yields _ s (cursor offset false) e x in enough limit s (length s) (suc (length s)) (past e) (y .inside) (omega arith) (omega arith))
+    (λ e x. let y = step-yields _ s (cursor offset false) e x in
+    enough limit s (length s) (suc (length s)) (past e) (y .inside) (omega arith) (omega arith))
 
 -- each element of the iteration is what the step behind the one before it yields
 abbrev pub Each : List ℕ → ℕ → Iteration → Type 0

@@ -43,7 +43,8 @@ pub leaf-bytes : (key : List ℕ) (v : Item) → listBytes (leaf key v none) ≡
 unfolding listBytes
 leaf-bytes key v = append-nil (elementBytes (row v .tag) key (row v .value))
 
-pub nest-bytes : (n : Embedded) (key : List ℕ) (inner : Elements) → listBytes (nest (embedded n) key inner none) ≡ elementBytes (nestTag (embedded n)) key (treeBytes inner)
+pub nest-bytes : (n : Embedded) (key : List ℕ) (inner : Elements)
+    → listBytes (nest (embedded n) key inner none) ≡ elementBytes (nestTag (embedded n)) key (treeBytes inner)
 unfolding listBytes
 nest-bytes n key inner = append-nil (elementBytes (nestTag (embedded n)) key (treeBytes inner))
 
@@ -61,7 +62,12 @@ pub nest-length : (n : Embedded) (key : List ℕ) (inner rest : Elements)
 unfolding listBytes
 nest-length n key inner rest =
     let e = elementBytes (nestTag (embedded n)) key (treeBytes inner) in
-    omega (arith, length-append e (listBytes rest), length-element (nestTag (embedded n)) key (treeBytes inner), length-document (listBytes inner))
+    omega (
+      arith,
+      length-append e (listBytes rest),
+      length-element (nestTag (embedded n)) key (treeBytes inner),
+      length-document (listBytes inner),
+    )
 
 pub count-within : (t : Elements) → count t ≤ length (listBytes t)
 unfolding listBytes
@@ -90,5 +96,10 @@ pub keys-behind : (Asked : ℕ → List ℕ → Type 0) (inArray : Bool) (i : �
 keys-behind Asked inArray i none more g h = rw add-zero at h
 keys-behind Asked inArray i (leaf key v rest) more g h =
     (g .0, keys-behind Asked inArray (suc i) rest more (g .1) (subst (λ (k : ℕ). ArrayKeys Asked inArray k more) (omega arith) h))
-keys-behind Asked inArray i (nest n key inner rest) more g h =
-    (g .0, (g .1 .0, keys-behind Asked inArray (suc i) rest more (g .1 .1) (subst (λ (k : ℕ). ArrayKeys Asked inArray k more) (omega arith) h)))
+keys-behind Asked inArray i (nest n key inner rest) more g h = (
+  g .0,
+  (
+    g .1 .0,
+    keys-behind Asked inArray (suc i) rest more (g .1 .1) (subst (λ (k : ℕ). ArrayKeys Asked inArray k more) (omega arith) h),
+  ),
+)

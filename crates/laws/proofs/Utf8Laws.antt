@@ -40,7 +40,8 @@ sameList same [] (y ∷ ys) = false
 sameList same (x ∷ xs) [] = false
 sameList same (x ∷ xs) (y ∷ ys) = same x y && sameList same xs ys
 
-pub same-list-eq : {A : Type 0} (same : A → A → Bool) → ((x y : A) → T (same x y) → x ≡ y) → (xs ys : List A) → T (sameList same xs ys) → xs ≡ ys
+pub same-list-eq : {A : Type 0} (same : A → A → Bool) → ((x y : A) → T (same x y) → x ≡ y) → (xs ys : List A) → T (sameList same xs ys)
+    → xs ≡ ys
 same-list-eq same h [] [] t = refl
 same-list-eq same h [] (y ∷ ys) t = absurd t
 same-list-eq same h (x ∷ xs) [] t = absurd t

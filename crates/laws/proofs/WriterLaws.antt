@@ -1,5 +1,5 @@
--- What an accepted call of the writer says, and when a call is accepted; and that it keeps the bytes behind its output (document 01, "Writer
--- and joining").
+-- What an accepted call of the writer says, and when a call is accepted; and that it keeps the bytes behind its output
+-- (document 01, "Writer and joining").
 use Prim.Native.Nat.{ℕ, suc, _+_, _-_, _≤_, _<_}
 use mathlib.Core.Path.{_≡_, sym, ap, subst, _∙_}
 use mathlib.Core.List.{List, [], _∷_}
@@ -12,7 +12,8 @@ use borrow.Author.Tests.{le-leb, lt-ltb, eq-eqb, leb-true, leb-false, ltb-true, 
 use Rattle.bson.specs.Answer.{Answer, gives}
 use Rattle.bson.specs.Output.{put}
 use Rattle.bson.specs.Grammar.{bytes32, row, Embedded, embedded, document, nestTag, elementBytes}
-use Rattle.bson.specs.Writer.{State, used, depth, start, mark, Kind, kindOf, markOf, passes, kindHolds, stands, stand, room, possible, Desk, desk, popped}
+use Rattle.bson.specs.Writer.{State, used, depth, start, mark, Kind, kindOf, markOf, passes, kindHolds, stands, stand, room, possible, Desk}
+use Rattle.bson.specs.Writer.{desk, popped}
 use Rattle.bson.specs.Writer.{roomOf, innermost, nextDepth, keyIn, keyPasses, grown, roomFor, appended, pushed, openedIn, openedTop, closed}
 use Rattle.bson.specs.Writer.{Call, openTop, close, append, openNest, answer}
 use Rattle.laws.proofs.AnswerLaws.{gives-injective, unless-gives, then-gives}
@@ -57,7 +58,8 @@ possible-says w room e =
     let (c, d) = both-hold (leb (used w + depth w) room) _ b in
     (leb-true _ _ a, leb-true _ _ c, d)
 
-pub possible-gives : (w : State) (room : ℕ) → depth w ≤ 202 → used w + depth w ≤ room → stand w (depth w) (used w) ≡ true → possible w room ≡ true
+pub possible-gives : (w : State) (room : ℕ) → depth w ≤ 202 → used w + depth w ≤ room → stand w (depth w) (used w) ≡ true
+    → possible w room ≡ true
 unfolding possible
 possible-gives w room a b c = rw (le-leb _ _ a, le-leb _ _ b, c)
 
@@ -100,7 +102,8 @@ pub desk-sizes : (d : Desk) (kind : Kind) → Innermost d kind → DeskSizes d k
 desk-sizes d kind i =
     let w = d .state in
     let (a, b, c) = possible-says w (roomOf d) (i .can) in
-    let (x, y, z) = stand-says w (depth w - 1) (used w) (subst (λ (k : ℕ). stand w k (used w) ≡ true) (before-last (depth w) (i .some)) c) in
+    let (x, y, z) = stand-says w (depth w - 1) (used w)
+    (subst (λ (k : ℕ). stand w k (used w) ≡ true) (before-last (depth w) (i .some)) c) in
     let (r, s) = room-within (length (d .buffer)) in
     record {
       some = i .some;
@@ -250,7 +253,8 @@ pub record Behind (d e : Desk) : Type 0 where
 appended-words : (d : Desk) (more tag : ℕ) (key : List ℕ) (good : Bool) (value : List ℕ) (e : Desk) → length (d .state) ≡ 406
     → Appended d more tag key good value e → length (e .state) ≡ 406
 appended-words d more tag key good value e h a =
-    ap (λ (x : Desk). length (x .state)) (a .is) ∙ grown-words (d .state) h (a .kind) (length (elementBytes tag (keyIn (a .kind) key) value))
+    ap (λ (x : Desk). length (x .state)) (a .is)
+    ∙ grown-words (d .state) h (a .kind) (length (elementBytes tag (keyIn (a .kind) key) value))
 
 put-behind : (d : Desk) (w : State) (at : ℕ) (text : List ℕ) → at + length text ≤ length (d .buffer) → at + length text ≤ used w
     → used (d .state) ≤ used w → Behind d (desk w (put (d .buffer) at text))
@@ -285,7 +289,8 @@ closed-behind d e h c =
     let u = popped-used w h in
     let zero = put-behind d (popped w) (used w) (0 ∷ []) (omega (arith, s .within, s .some)) (omega arith) (omega arith) in
     let ended = desk w (put (d .buffer) (used w) (0 ∷ [])) in
-    let whole = put-behind ended (popped w) at (bytes32 (used w + 1 - at)) (omega (arith, s .begun, s .within, zero .long)) (omega (arith, s .begun))
+    let whole = put-behind ended (popped w) at (bytes32 (used w + 1 - at)) (omega (arith, s .begun, s .within, zero .long))
+    (omega (arith, s .begun))
     (omega arith) in
     subst (Behind d) (sym (c .is)) (record { same = whole .same ∙ zero .same; long = whole .long ∙ zero .long; more = zero .more })
 

@@ -11,7 +11,8 @@ use Rattle.bson.specs.Answer.{Answer, gives, refuses}
 use Rattle.bson.specs.Bytes.{natural}
 use Rattle.bson.specs.Grammar.{bytes32, row, embedded, nestTag}
 use Rattle.bson.specs.Writer.{State, used, depth, mark, kindOf, possible, Desk, desk, roomOf, innermost, nextDepth, keyIn}
-use Rattle.bson.specs.Writer.{keyPasses, roomFor, appended, openedIn, openedTop, closed, Call, openTop, close, append, openNest, answer, leaves, performed}
+use Rattle.bson.specs.Writer.{keyPasses, roomFor, appended, openedIn, openedTop, closed, Call, openTop, close, append, openNest, answer}
+use Rattle.bson.specs.Writer.{leaves, performed}
 use Rattle.laws.proofs.AnswerLaws.{oneOf, RefusesIn, given, then-in, unless-in, cond-in, refused-in}
 use Rattle.laws.proofs.Common.{split}
 
@@ -43,7 +44,8 @@ pub room-refused : (w : State) (space more : ℕ) (key : List ℕ) (good : Bool)
     → roomFor w space more key good size ≡ refuses n p → oneOf (13 ∷ 14 ∷ 15 ∷ 18 ∷ []) n ≡ true
 room-refused w space more key good size n p = refused-in (room-in w space more key good size)
 
-appended-in : (d : Desk) (more tag : ℕ) (key : List ℕ) (good : Bool) (value : List ℕ) → RefusesIn refusals (appended d more tag key good value)
+appended-in : (d : Desk) (more tag : ℕ) (key : List ℕ) (good : Bool) (value : List ℕ)
+    → RefusesIn refusals (appended d more tag key good value)
 unfolding appended
 appended-in d more tag key good value = then-in (room-in (d .state) (roomOf d) more key good (length value)) (λ kind q. given)
 

@@ -9,7 +9,8 @@ use lib.ListN.{length, getD, set, length-replicate, length-set}
 use lib.Seq.{getD-set-same, getD-set-other}
 use borrow.Author.Tests.{lt-ltb, leb-true}
 use Rattle.bson.specs.Answer.{gives}
-use Rattle.bson.specs.Writer.{State, fresh, used, depth, startAt, start, markAt, mark, Kind, inDocument, inArray, kindOf, kindHolds, grown, pushed, popped}
+use Rattle.bson.specs.Writer.{State, fresh, used, depth, startAt, start, markAt, mark, Kind, inDocument, inArray, kindOf, kindHolds, grown}
+use Rattle.bson.specs.Writer.{pushed, popped}
 
 -- one element more, in an array of so many
 abbrev pub onceMore : Kind → Kind
@@ -46,7 +47,8 @@ module _ (w : State) where
   unfolding grown
   grown-other inDocument n i p m = getD-set-other w 0 i (used w + n) 0 (λ e. omega arith)
   grown-other (inArray count) n i p m =
-      getD-set-other (set w 0 (used w + n)) (markAt (depth w - 1)) i (count + 1) 0 m ∙ getD-set-other w 0 i (used w + n) 0 (λ e. omega arith)
+      getD-set-other (set w 0 (used w + n)) (markAt (depth w - 1)) i (count + 1) 0 m
+      ∙ getD-set-other w 0 i (used w + n) 0 (λ e. omega arith)
 
   pub grown-depth : (kind : Kind) (n : ℕ) → depth (grown kind w n) ≡ depth w
   grown-depth kind n = grown-other kind n 1 (omega arith) (λ e. omega arith)
@@ -92,14 +94,16 @@ module _ (w : State) (h : length w ≡ 406) where
   pub pushed-start : (m : ℕ) → depth w ≤ 201 → start (pushed w m) (depth w) ≡ used w - 4
   unfolding pushed
   pushed-start m low =
-      getD-set-other (set (set w (startAt (depth w)) (used w - 4)) (markAt (depth w)) m) 1 (startAt (depth w)) (depth w + 1) 0 (λ e. omega arith)
+      getD-set-other (set (set w (startAt (depth w)) (used w - 4)) (markAt (depth w)) m) 1 (startAt (depth w)) (depth w + 1) 0
+      (λ e. omega arith)
       ∙ getD-set-other (set w (startAt (depth w)) (used w - 4)) (markAt (depth w)) (startAt (depth w)) m 0 (λ e. omega arith)
       ∙ stored (startAt (depth w)) (used w - 4) (omega arith)
 
   pub pushed-mark : (m : ℕ) → depth w ≤ 201 → mark (pushed w m) (depth w) ≡ m
   unfolding pushed
   pushed-mark m low =
-      getD-set-other (set (set w (startAt (depth w)) (used w - 4)) (markAt (depth w)) m) 1 (markAt (depth w)) (depth w + 1) 0 (λ e. omega arith)
+      getD-set-other (set (set w (startAt (depth w)) (used w - 4)) (markAt (depth w)) m) 1 (markAt (depth w)) (depth w + 1) 0
+      (λ e. omega arith)
       ∙ getD-set-same (set w (startAt (depth w)) (used w - 4)) (markAt (depth w)) m 0 (simp (length-set) (omega arith))
 
   pub popped-words : length (popped w) ≡ 406

@@ -11,7 +11,8 @@ use Rattle.bson.specs.Answer.{Answer, gives, refuses, then}
 use Rattle.bson.specs.Grammar.{bytes32, elementBytes, document}
 use Rattle.bson.specs.Output.{Output, output, put, putText}
 use Rattle.bson.specs.Writer.{State, used, depth, start, markOf, Kind, room, possible, innermost, keyIn}
-use Rattle.bson.specs.Writer.{Desk, desk, appended, pushed, popped, openedTop, closed, openTop, close, answer, Written, written, leaves, performed}
+use Rattle.bson.specs.Writer.{Desk, desk, appended, pushed, popped, openedTop, closed, openTop, close, answer, Written, written, leaves}
+use Rattle.bson.specs.Writer.{performed}
 use Rattle.laws.proofs.GrammarLaws.{length-bytes32}
 use Rattle.laws.proofs.OutputLaws.{text-fits}
 use Rattle.laws.proofs.WriterWords.{grown-depth}
@@ -33,7 +34,8 @@ module _ (w : State) (buffer : List ℕ) (tag mark : ℕ) (key : List ℕ) (n : 
   accepted : n ≡ 0 → was ≡ gives (desk v exit)
   unfolding was
   accepted z =
-      accepted-from (desk w buffer) was (appended-refused (desk w buffer) 1 tag key true (bytes32 5)) (sym (ap (λ (x : Written). x .number) is) ∙ z)
+      accepted-from (desk w buffer) was (appended-refused (desk w buffer) 1 tag key true (bytes32 5))
+      (sym (ap (λ (x : Written). x .number) is) ∙ z)
       ∙ ap (λ (x : Written). gives (x .left)) (sym is)
 
   pub opened-done : n ≡ 0 → (x : State) → x ≡ pushedAt v (used v - 4) mark → written n x exit ≡ openedAs w buffer tag mark key
@@ -44,7 +46,8 @@ module _ (w : State) (buffer : List ℕ) (tag mark : ℕ) (key : List ℕ) (n : 
   unfolding openedAs was
   opened-refused h = by was refl
     where
-      by : (a : Answer Desk) → was ≡ a → written n v exit ≡ leaves (desk w buffer) (then a λ d. gives (desk (pushed (d .state) mark) (d .buffer)))
+      by : (a : Answer Desk) → was ≡ a
+          → written n v exit ≡ leaves (desk w buffer) (then a λ d. gives (desk (pushed (d .state) mark) (d .buffer)))
       by (gives d) q = absurd (h (ap (λ (x : Written). x .number) is ∙ ap (λ (a : Answer Desk). leaves (desk w buffer) a .number) q))
       by (refuses m p) q = is ∙ ap (leaves (desk w buffer)) q
 
@@ -113,6 +116,7 @@ module _ (w : State) (buffer : List ℕ) (m : ℕ) (em : m ≡ room (length buff
     ends-within = (known .begun, omega (arith, known .some, known .within), omega (arith, known .some, known .small))
 
     pub close-done : (u s : ℕ) → u ≡ used w → s ≡ start w (depth w - 1) → (exit : List ℕ)
-        → exit ≡ put (put buffer u (0 ∷ [])) s (bytes32 (u + 1 - s)) → (v : State) → v ≡ popped w → written 0 v exit ≡ performed close w buffer
+        → exit ≡ put (put buffer u (0 ∷ [])) s (bytes32 (u + 1 - s)) → (v : State) → v ≡ popped w
+        → written 0 v exit ≡ performed close w buffer
     unfolding performed answer closed
     close-done u s eu es exit eb v ev = rw (inner, ev, eb, eu, es)

@@ -78,6 +78,7 @@ timestamp-again : (r : Timestamp) → timestamp-unsaid (saidTimestamp r) ≡ r
 timestamp-again (timestamp.Is i n) = refl
 timestamp-again (timestamp.Refused k) = refl
 
-pub timestamp-from-slice-determined : (κs : Lfts 1) (a : Dens κs timestamp-from-slice-kinds.ps) → Determined (timestamp-from-slice-reads.Post κs a)
+pub timestamp-from-slice-determined : (κs : Lfts 1) (a : Dens κs timestamp-from-slice-kinds.ps)
+    → Determined (timestamp-from-slice-reads.Post κs a)
 timestamp-from-slice-determined κs a r₁ r₂ s₁ s₂ p q =
     injective-by saidTimestamp timestamp-unsaid timestamp-again r₁ r₂ (p ∙ sym q)

@@ -26,9 +26,11 @@ module _ (text : List ℕ) where
       ∙ ap (λ (l : List ℕ). byte j ∷ l) (next-byte n (j + 1) k (omega arith) (omega arith))
 
   module _ (buffer : List ℕ) (at from : ℕ) where
-    pub one-stored : from < length text → length text ≤ from + 1 → at < length buffer → set buffer at (byte from) ≡ put buffer at (drop from text)
+    pub one-stored : from < length text → length text ≤ from + 1 → at < length buffer
+        → set buffer at (byte from) ≡ put buffer at (drop from text)
     one-stored h g f =
-        let e : drop from text ≡ byte from ∷ [] = drop-cons text from 0 h ∙ ap (λ (l : List ℕ). byte from ∷ l) (drop-of-length-le text {i = suc from} (omega arith)) in
+        let e : drop from text ≡ byte from ∷ [] = drop-cons text from 0 h
+        ∙ ap (λ (l : List ℕ). byte from ∷ l) (drop-of-length-le text {i = suc from} (omega arith)) in
         rw e (stored (byte from ∷ []) buffer at (omega arith))
 
     pub none-stored : length text ≤ from → buffer ≡ put buffer at (drop from text)
@@ -53,7 +55,8 @@ module _ (text : List ℕ) where
 
 -- the first n bytes, and then others
 module _ (buffer : List ℕ) (at : ℕ) (text : List ℕ) (n : ℕ) (few : n ≤ length text) (fits : at + length text ≤ length buffer) where
-  then-next : (next : List ℕ) → at + (n + length next) ≤ length buffer → put (put buffer at (take n text)) (at + n) next ≡ put buffer at (take n text ++ next)
+  then-next : (next : List ℕ) → at + (n + length next) ≤ length buffer
+      → put (put buffer at (take n text)) (at + n) next ≡ put buffer at (take n text ++ next)
   then-next next h =
       let l : length (take n text) ≡ n = length-take-le n text few in
       ap (λ (k : ℕ). put (put buffer at (take n text)) (at + k) next) (sym l) ∙ put-put buffer at (take n text) next (omega arith)
@@ -69,9 +72,11 @@ module _ (buffer : List ℕ) (at : ℕ) (text : List ℕ) (n : ℕ) (few : n ≤
 
 -- two bytes of what is left, and the last
 pub then-last : (buffer : List ℕ) (at : ℕ) (text : List ℕ) (from : ℕ) → from + 2 ≤ length text → at + length text ≤ length buffer
-    → (two : List ℕ) → two ≡ put buffer (at + from) (take 2 (drop from text)) → (exit : List ℕ) → exit ≡ put two (at + (from + 2)) (drop (from + 2) text)
+    → (two : List ℕ) → two ≡ put buffer (at + from) (take 2 (drop from text)) → (exit : List ℕ)
+    → exit ≡ put two (at + (from + 2)) (drop (from + 2) text)
     → exit ≡ put buffer (at + from) (drop from text)
 then-last buffer at text from h f two et exit ee =
     let e : at + (from + 2) ≡ at + from + 2 = omega arith in
     let d : drop (from + 2) text ≡ drop 2 (drop from text) = sym (drop-drop 2 from text) in
-    ee ∙ rw (et, e, d) (then-rest buffer (at + from) (drop from text) 2 (omega (arith, length-drop from text)) (omega (arith, length-drop from text)))
+    ee ∙ rw (et, e, d)
+    (then-rest buffer (at + from) (drop from text) 2 (omega (arith, length-drop from text)) (omega (arith, length-drop from text)))

@@ -22,7 +22,8 @@ Accepts v n = (v .number ≡ 0) × (v .count ≡ n)
 
 accepts : (a : Answer ℕ) → NoZero a → (n : ℕ) → Accepts (verdict a) n ↔ (a ≡ gives n)
 accepts (gives m) h n = ((λ x. ap gives (x .1)), λ e. (refl, ap (λ (b : Answer ℕ). verdict b .count) e))
-accepts (refuses number place) h n = ((λ x. absurd (omega (arith, x .0))), λ e. (ap (λ (b : Answer ℕ). verdict b .number) e, ap (λ (b : Answer ℕ). verdict b .count) e))
+accepts (refuses number place) h n =
+    ((λ x. absurd (omega (arith, x .0))), λ e. (ap (λ (b : Answer ℕ). verdict b .number) e, ap (λ (b : Answer ℕ). verdict b .count) e))
 
 pub check-frame : (s : List ℕ) → AreBytes s → (v : VerdictNumbers) → v ≡ verdict (check false s) → (n : ℕ)
     → Accepts v n ↔ ((t : Elements) × Frame s n t)

@@ -21,11 +21,13 @@ use Rattle.fringewell.specs.Given.{given}
 use Rattle.fringewell.specs.Left.{stepsUnder}
 
 module _ (limit : Limit) (s : List ℕ) where
-  -- what `fringewell_value_of` promises of these numbers is what `fringewell_read` promises at this place, or `fringewell_read_under` under the limit
+  -- what `fringewell_value_of` promises of these numbers is what `fringewell_read` promises at this place, or
+  -- `fringewell_read_under` under the limit
   abbrev pub ReadOnce : (place tag offset size : ℕ) → Type 0
   ReadOnce place tag offset size = valueRead (valueOf s (given place tag offset size)) ≡ valueRead (readAtUnder limit s place)
 
-  yielded-once : (c : Cursor) (e : Element) → stepUnder limit s c ≡ gives (yield e) → ReadOnce (e .place) (e .tag) (e .value .offset) (e .value .size)
+  yielded-once : (c : Cursor) (e : Element) → stepUnder limit s c ≡ gives (yield e)
+      → ReadOnce (e .place) (e .tag) (e .value .offset) (e .value .size)
   unfolding valueOf
   yielded-once c e x =
       let y = step-yields limit s c e x in
@@ -48,7 +50,8 @@ module _ (limit : Limit) (s : List ℕ) where
   abbrev pub FoundReadOnce : FoundNumbers → Type 0
   FoundReadOnce n = n .number ≡ 0 → ReadOnce (n .place) (n .tag) (n .offset) (n .size)
 
-  found-by : (a : Answer Found) → NoZero a → ((f : Found) → a ≡ gives f → stepUnder limit s (cursor (f .element .place) false) ≡ gives (yield (f .element)))
+  found-by : (a : Answer Found) → NoZero a
+      → ((f : Found) → a ≡ gives f → stepUnder limit s (cursor (f .element .place) false) ≡ gives (yield (f .element)))
       → FoundReadOnce (found a)
   found-by (gives f) h y z = yielded-once _ (f .element) (y f refl)
   found-by (refuses number place) h y z = absurd (omega arith)
@@ -56,7 +59,8 @@ module _ (limit : Limit) (s : List ℕ) where
   pub lookup-once : (key : List ℕ) (n : FoundNumbers) → n ≡ found (getUnder limit s key) → FoundReadOnce n
   lookup-once key n q =
       rw q
-      (found-by (getUnder limit s key) (no-zero-under reads limit refl (λ m. refl) (get-in limit s key)) (λ f x. get-read limit s key f x .0))
+      (found-by (getUnder limit s key) (no-zero-under reads limit refl (λ m. refl) (get-in limit s key))
+      (λ f x. get-read limit s key f x .0))
 
   pub lookup-typed-once : (key : List ℕ) (tag : ℕ) (n : FoundNumbers) → n ≡ found (getWithUnder limit s key tag) → FoundReadOnce n
   lookup-typed-once key tag n q =

@@ -97,4 +97,5 @@ writer-trace-reads-back w buffer calls end (turns.news κs s promise) typed trac
     subst (λ (x : Session). Stands buffer (x .left) (x .tree)) (begun ∙ trace-runs trace) (writer-reads-back buffer calls typed)
 
 pub closed-reads-back : ClosedReadsBack
-closed-reads-back w v buffer left calls t fresh typed trace = writer-trace-reads-back w buffer calls (session v left (built t)) fresh typed trace
+closed-reads-back w v buffer left calls t fresh typed trace =
+    writer-trace-reads-back w buffer calls (session v left (built t)) fresh typed trace

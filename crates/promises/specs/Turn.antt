@@ -1,5 +1,5 @@
--- Turns of the writer, each a call of a public function with an answer that its promise allows, and what is closed by them (demand 2; document 01,
--- "Writer and joining").
+-- Turns of the writer, each a call of a public function with an answer that its promise allows, and what is closed by them (demand 2;
+-- document 01, "Writer and joining").
 use Prim.Native.Nat.{ℕ, zero, suc}
 use mathlib.Core.Bool.{Bool}
 use mathlib.Core.List.{List, [], _∷_}
@@ -83,9 +83,11 @@ pub data Turn (out : Lent) (w : DocWriter) (r : Written) : Call → List ℕ →
   appends-binary : (κs : Lfts 3) (key : Lent) (subtype : ℕ) (contents : Lent) (s : _)
       → append-binary-reads.Post κs (out, (w, (key, (subtype, (contents, tt))))) r s
       → Turn out w r (append (now key) (binary subtype (now contents))) (now (s .0))
-  appends-regex : (κs : Lfts 4) (key pattern options : Lent) (s : _) → append-regex-reads.Post κs (out, (w, (key, (pattern, (options, tt))))) r s
+  appends-regex : (κs : Lfts 4) (key pattern options : Lent) (s : _)
+      → append-regex-reads.Post κs (out, (w, (key, (pattern, (options, tt))))) r s
       → Turn out w r (append (now key) (regex (now pattern) (now options))) (now (s .0))
-  appends-dbpointer : (κs : Lfts 4) (key namespace id : Lent) (s : _) → append-dbpointer-reads.Post κs (out, (w, (key, (namespace, (id, tt))))) r s
+  appends-dbpointer : (κs : Lfts 4) (key namespace id : Lent) (s : _)
+      → append-dbpointer-reads.Post κs (out, (w, (key, (namespace, (id, tt))))) r s
       → Turn out w r (append (now key) (dbPointer (now namespace) (now id))) (now (s .0))
   appends-object-id : (κs : Lfts 3) (key id : Lent) (s : _) → append-object-id-reads.Post κs (out, (w, (key, (id, tt)))) r s
       → Turn out w r (append (now key) (objectId (now id))) (now (s .0))
@@ -107,8 +109,8 @@ pub data Trace (end : Session) : List Call → Session → Type 0 where
   turn : (out : Lent) (w : DocWriter) (r : Written) (c : Call) (left : List ℕ) (tree : Building) (cs : List Call) → Turn out w r c left
       → Trace end cs (session (r .writer) left (afterTurn (r .number) c tree)) → Trace end (c ∷ cs) (session w (now out) tree)
 
--- "what the writer closes, begun fresh and each call given the buffer and the state that the one before left, reads back as exactly the elements
--- given"
+-- "what the writer closes, begun fresh and each call given the buffer and the state that the one before left, reads
+-- back as exactly the elements given"
 abbrev pub WriterTraceReadsBack : Type 0
 WriterTraceReadsBack = (w : DocWriter) (buffer : List ℕ) (calls : List Call) (end : Session) → Fresh w → Typed calls
     → Trace end calls (session w buffer unopened) → Stands buffer (end .left) (end .tree)

@@ -2,7 +2,8 @@
 pub mod parts;
 
 ghost use mathlib.Core.Path.{_≡_};
-ghost use Rattle.bson.specs.Value.{valueOf, elementAtUnder, readAtUnder, readWithUnder, readAt, readWith, ofTag, partsOf, partOf, partAtUnder, partAt};
+ghost use Rattle.bson.specs.Value.{valueOf, elementAtUnder, readAtUnder, readWithUnder, readAt, readWith, ofTag, partsOf, partOf};
+ghost use Rattle.bson.specs.Value.{partAtUnder, partAt};
 ghost use Rattle.bson.specs.Answer.{then};
 ghost use Rattle.cstr.specs.Said.{limitOf};
 ghost use Rattle.iter.specs.Said.{saidElement};

@@ -40,7 +40,8 @@ module _ (s : List ℕ) (o q : Output) where
   unfolding reportLines
   report-put p v h e c f =
       rw (le-leb (length s) 65535 h, ← c)
-      (f ∙ ap (λ (x : Output). putText x (verdictLine v)) e ∙ sym (texts-append (putText o header) (elementLines (iterate s 4)) (verdictLine v ∷ [])))
+      (f ∙ ap (λ (x : Output). putText x (verdictLine v)) e
+      ∙ sym (texts-append (putText o header) (elementLines (iterate s 4)) (verdictLine v ∷ [])))
 
   pub report-long : 65535 < length s → q ≡ putText (putText o header) (verdictLine (refuses 20 0)) → q ≡ putTexts o (reportLines s)
   unfolding reportLines

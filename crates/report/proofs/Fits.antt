@@ -70,5 +70,6 @@ module _ (s : List ℕ) (short : length s ≤ 65535 → length (verdictLine (che
   unfolding put report
   report-printed buffer exit r e room =
       let t = joined (reportLines s) in
-      let f = e ∙ texts-fit (output buffer 0) (reportLines s) (omega (arith, report-short)) ∙ ap (output (put buffer 0 t)) (zero-add (length t)) in
+      let f = e ∙ texts-fit (output buffer 0) (reportLines s) (omega (arith, report-short))
+      ∙ ap (output (put buffer 0 t)) (zero-add (length t)) in
       rw (ap (λ (o : Output). o .used) f, ap (λ (o : Output). o .buffer) f) (take-at t (drop (0 + length t) buffer) (length t) refl)

@@ -56,4 +56,5 @@ module _ (buffer : List ℕ) (at : ℕ) (o : Output) where
   pub refused-put : (number place v w : ℕ) → v ≡ width number → w ≡ width place → leb (at + (v + w + 10)) (length buffer) ≡ true
       → o ≡ putTexts (output buffer at) (refusedPieces number place) → o ≡ putText (output buffer at) (verdictLine (refuses number place))
   unfolding verdictLine
-  refused-put number place v w p q t c = line-put buffer at (refusedPieces number place) (v + w + 10) o (refused-size number place v w p q) t c
+  refused-put number place v w p q t c =
+      line-put buffer at (refusedPieces number place) (v + w + 10) o (refused-size number place v w p q) t c

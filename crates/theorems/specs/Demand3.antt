@@ -27,14 +27,16 @@ module _ (limit : Limit) where
     pub framed : (e : Element) → First limit d key e → getBytesUnder limit d key ≡ bytes d (e .value)
     -- a typed lookup: absent as the plain one; 17, at the first element's tag byte, exactly when its tag is another; else as the plain one
     pub typed-absent : (tag : ℕ) → (getWithUnder limit d key tag ≡ refuses 16 (terminator d)) ↔ Absent limit d key
-    pub typed-other : (tag p : ℕ) → (getWithUnder limit d key tag ≡ refuses 17 p) ↔ ((e : Element) × First limit d key e × (p ≡ e .place) × (e .tag ≡ tag → ⊥))
+    pub typed-other : (tag p : ℕ)
+        → (getWithUnder limit d key tag ≡ refuses 17 p) ↔ ((e : Element) × First limit d key e × (p ≡ e .place) × (e .tag ≡ tag → ⊥))
     pub typed-first : (e : Element) (tag : ℕ) → First limit d key e → e .tag ≡ tag → getWithUnder limit d key tag ≡ getUnder limit d key
     pub typed-refused : (tag k p : ℕ) → getWithUnder limit d key tag ≡ refuses k p → ((k ≡ 16) × (p ≡ terminator d)) ⊎ (k ≡ 17)
 
   -- what is not refused in a passed slice, at the slice itself and at every document, array and scope reached
   pub record Undamaged (s : List ℕ) : Type 0 where
     -- no step from 4 or from where the last one ended, whatever the mark
-    pub steps : (σ : Spot) → Comes limit s σ → (mark : Bool) → (x : Step) × (stepUnder limit (σ .document) (cursor (σ .offset) mark) ≡ gives x)
+    pub steps : (σ : Spot) → Comes limit s σ → (mark : Bool)
+        → (x : Step) × (stepUnder limit (σ .document) (cursor (σ .offset) mark) ≡ gives x)
     -- no reading of a reachable value; one with a tag says 17 exactly when the tag is another
     pub readings : (σ : Spot) → Reachable limit s σ → (v : Value) × (readAtUnder limit (σ .document) (σ .offset) ≡ gives v)
     pub typed-readings : (σ : Spot) (x : Reachable limit s σ) (tag k p : ℕ)
@@ -42,8 +44,8 @@ module _ (limit : Limit) where
     pub lookups : (d : List ℕ) (l : Level) → Comes limit s (start d l) → (key : List ℕ) → Lookups d key
 
   pub record Demand3 : Type 0 where
-    -- "passes a slice exactly when it is admitted, every iteration so met ends at its own terminator, every reachable value can be read, and
-    -- none lies deeper than 200"
+    -- "passes a slice exactly when it is admitted, every iteration so met ends at its own terminator, every reachable value can be read,
+    -- and none lies deeper than 200"
     pub passes : (s : List ℕ) → ((n : ℕ) × (checkUnder limit false s ≡ gives n)) ↔ Whole limit s
     -- "the count it reports is the number of reachable values", of which there is one
     pub counts : (s : List ℕ) (n : ℕ) → checkUnder limit false s ≡ gives n → Number limit s n

@@ -1,4 +1,5 @@
--- Every yielded byte is accounted for: of an admitted slice, passed or refused, under a limit on keys or under none (document 02, request 13).
+-- Every yielded byte is accounted for: of an admitted slice, passed or refused, under a limit on keys or under
+-- none (document 02, request 13).
 use Prim.Native.Nat.{ℕ, _+_, _-_, _≤_, _<_}
 use mathlib.Core.Path.{_≡_}
 use mathlib.Core.List.{List, [], _∷_}
@@ -21,8 +22,8 @@ pub record Lies (s : List ℕ) (from : ℕ) (e : Element) : Type 0 where
   pub least : 2 ≤ span e .size
   pub inside : past e ≤ length s
 
--- "the elements yielded [..] lie one behind the other with no gap or overlap, [..] and the next step starts where they end": at a clean end at
--- the terminator, and at any refusal "the place is that start"
+-- "the elements yielded [..] lie one behind the other with no gap or overlap, [..] and the next step starts where they end": at a clean end
+-- at the terminator, and at any refusal "the place is that start"
 abbrev pub Accounted : Limit → List ℕ → ℕ → Iteration → Type 0
 Accounted limit s from ended = (stepUnder limit s (cursor from false) ≡ gives end) × (from ≡ terminator s)
 Accounted limit s from (broken number place) = (stepUnder limit s (cursor from false) ≡ refuses number place) × (place ≡ from)

@@ -48,4 +48,5 @@ pub record OneMeaning : Type 0 where
   -- so slices that mean one tree are equal
   pub same : (s s′ : List ℕ) (t : Elements) → AreBytes s → AreBytes s′ → Means s t → Means s′ t → s ≡ s′
   -- and in a passed slice the slice itself, and every document, array and scope reached, is one tree
-  pub throughout : (s : List ℕ) (n : ℕ) → AreBytes s → check false s ≡ gives n → (d : List ℕ) (l : Level) → Comes unlimited s (start d l) → OneTree d
+  pub throughout : (s : List ℕ) (n : ℕ) → AreBytes s → check false s ≡ gives n → (d : List ℕ) (l : Level) → Comes unlimited s (start d l)
+      → OneTree d

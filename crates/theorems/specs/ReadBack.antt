@@ -1,4 +1,5 @@
--- What the writer closes reads back as exactly the elements given, and every tree can be written (demand 2; document 01, "Writer and joining").
+-- What the writer closes reads back as exactly the elements given, and every tree can be written (demand 2;
+-- document 01, "Writer and joining").
 use Prim.Native.Nat.{ℕ, suc}
 use mathlib.Core.Path.{_≡_}
 use mathlib.Core.List.{List, [], _∷_}
@@ -95,8 +96,8 @@ Stands buffer d unopened = d ≡ desk fresh buffer
 Stands buffer d (building o around) = depth (d .state) ≡ suc (length around)
 Stands buffer d (built t) = ReadsBack d t
 
--- "what the writer closes, begun fresh and each call given the buffer and the state that the one before left, reads back as exactly the elements
--- given"
+-- "what the writer closes, begun fresh and each call given the buffer and the state that the one before left, reads
+-- back as exactly the elements given"
 abbrev pub WriterReadsBack : Type 0
 WriterReadsBack = (buffer : List ℕ) (calls : List Call) → Typed calls
     → Stands buffer (run calls (sessionStart buffer) .left) (run calls (sessionStart buffer) .tree)

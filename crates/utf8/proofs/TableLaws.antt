@@ -101,7 +101,8 @@ going-class {c = c} {m} b g h =
     let x = moveOf c m 0 b % 64 in
     ltb→lt (classOf c b) 12 (both-left (ltb (classOf c b) 12) (isState x (next (left []) b)) (table-right (g .right) 0 b (omega arith) h))
 
-pub going-on : {s c m : List ℕ} {state i x : ℕ} → Going s c m state i → i < length s → getD s i 0 < 256 → x ≡ moveOf c m (state % 64) (getD s i 0)
+pub going-on : {s c m : List ℕ} {state i x : ℕ} → Going s c m state i → i < length s → getD s i 0 < 256
+    → x ≡ moveOf c m (state % 64) (getD s i 0)
     → Going s c m x (i + 1)
 going-on {s} {i = i} g h k e =
     record {

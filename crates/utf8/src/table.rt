@@ -25,9 +25,9 @@ const CLASSES: [u8; 256] = [
     9, 10, 10, 10, 11, 4, 4, 4, 4, 4, 4, 4, 4, 4, 4, 4, // F0 to FF
 ];
 
-// The state behind a byte, for its class and each state before it. A state says how far the class's number is shifted to the right: the two octal digits
-// that are then the last are the state behind. 00: no character is begun. 06, 14, 22: one, two, three tails are to come; 30, 36, 44, 52: those behind
-// E0, ED, F0, F4. 60: no character fits.
+// The state behind a byte, for its class and each state before it. A state says how far the class's number is shifted to the right: the two
+// octal digits that are then the last are the state behind. 00: no character is begun. 06, 14, 22: one, two, three tails are to come; 30,
+// 36, 44, 52: those behind E0, ED, F0, F4. 60: no character fits.
 #[rattlefmt::skip]
 const MOVES: [u64; 12] = [
     //60 52 44 36 30 22 14 06 00 before

@@ -1,5 +1,6 @@
 // Replays a session of the writer, `write ROOM; CALL; CALL; ..`: a buffer of bytes that are all EE, a fresh state, and the calls in order.
-// The line is printed again with what each call returned, the used bytes, the whole buffer, and where the top is closed the whole check of it.
+// The line is printed again with what each call returned, the used bytes, the whole buffer, and where the top
+// is closed the whole check of it.
 //
 // A call is a word and its fields; bytes are hexadecimal, a `-` names none, and all other numbers but a subtype are decimal:
 //     open, close

@@ -25,7 +25,8 @@ check-under-determined κs a r₁ r₂ s₁ s₂ p q = injective-by said (unsaid
 pub check-determined : (κs : Lfts 1) (a : Dens κs check-kinds.ps) → Determined (check-reads.Post κs a)
 check-determined κs a r₁ r₂ s₁ s₂ p q = injective-by said (unsaidAt Accepted Refused) verdict-again r₁ r₂ (p ∙ sym q)
 
-pub check-strict-under-determined : (κs : Lfts 1) (a : Dens κs check-strict-under-kinds.ps) → Determined (check-strict-under-reads.Post κs a)
+pub check-strict-under-determined : (κs : Lfts 1) (a : Dens κs check-strict-under-kinds.ps)
+    → Determined (check-strict-under-reads.Post κs a)
 check-strict-under-determined κs a r₁ r₂ s₁ s₂ p q = injective-by said (unsaidAt Accepted Refused) verdict-again r₁ r₂ (p ∙ sym q)
 
 pub check-strict-determined : (κs : Lfts 1) (a : Dens κs check-strict-kinds.ps) → Determined (check-strict-reads.Post κs a)

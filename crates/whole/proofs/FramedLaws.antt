@@ -1,5 +1,5 @@
--- A framed value of a fixed size, but for a boolean, is read whatever its bytes are, and opens nothing; a framed document or array opens itself
--- (document 01, "Values").
+-- A framed value of a fixed size, but for a boolean, is read whatever its bytes are, and opens nothing; a framed document or array opens
+-- itself (document 01, "Values").
 use Prim.Native.Nat.{ℕ, _+_, _≤_}
 use mathlib.Core.Path.{_≡_, refl, sym, ap, _∙_}
 use mathlib.Core.List.{List}
@@ -56,15 +56,43 @@ module _ (s : List ℕ) (p : Part) (n : ℕ) (one : n ≡ 1 → ⊥) (l : length
   closes : (t : ElementType) → sizeFor t ≡ fixed n → Closed s p t
   unfolding content opening fits timestampOf
   closes Boolean z = absurd (one (sym (ap sizeOf z)))
-  closes Int32 z = record { value = leaf (int32 (i32 (bytes s p))); reads = rw (le-leb 4 (length (bytes s p)) (omega (arith, l, ap sizeOf z))); shut = refl }
-  closes Double z = record { value = leaf (double (le64 (bytes s p))); reads = rw (le-leb 8 (length (bytes s p)) (omega (arith, l, ap sizeOf z))); shut = refl }
-  closes Int64 z = record { value = leaf (int64 (i64 (bytes s p))); reads = rw (le-leb 8 (length (bytes s p)) (omega (arith, l, ap sizeOf z))); shut = refl }
-  closes DateTime z = record { value = leaf (dateTime (i64 (bytes s p))); reads = rw (le-leb 8 (length (bytes s p)) (omega (arith, l, ap sizeOf z))); shut = refl }
+  closes Int32 z =
+      record {
+        value = leaf
+            (int32 (i32 (bytes s p)));
+        reads = rw (le-leb 4 (length (bytes s p)) (omega (arith, l, ap sizeOf z)));
+        shut = refl;
+      }
+  closes Double z =
+      record {
+        value = leaf
+            (double (le64 (bytes s p)));
+        reads = rw (le-leb 8 (length (bytes s p)) (omega (arith, l, ap sizeOf z)));
+        shut = refl;
+      }
+  closes Int64 z =
+      record {
+        value = leaf
+            (int64 (i64 (bytes s p)));
+        reads = rw (le-leb 8 (length (bytes s p)) (omega (arith, l, ap sizeOf z)));
+        shut = refl;
+      }
+  closes DateTime z =
+      record {
+        value = leaf
+            (dateTime (i64 (bytes s p)));
+        reads = rw (le-leb 8 (length (bytes s p)) (omega (arith, l, ap sizeOf z)));
+        shut = refl;
+      }
   closes Timestamp z =
       let h : length (bytes s p) ≡ 8 = l ∙ sym (ap sizeOf z) in
       record {
         value = leaf (timestamp (le32 (bytes s p)) (le32 (drop 4 (bytes s p))));
-        reads = rw (le-leb 4 (length (bytes s p)) (omega arith), le-leb 4 (length (drop 4 (bytes s p))) (omega (arith, length-drop 4 (bytes s p))));
+        reads =
+            rw (
+              le-leb 4 (length (bytes s p)) (omega arith),
+              le-leb 4 (length (drop 4 (bytes s p))) (omega (arith, length-drop 4 (bytes s p))),
+            );
         shut = refl;
       }
   closes ObjectId z = record { value = _; reads = refl; shut = refl }

@@ -54,7 +54,8 @@ yields-placed limit s offset e x = let y = step-yields limit s _ e x in subst (�
 
 -- an opened value, by what visiting it answers
 module _ (limit : Limit) (strict : Bool) (s : List ℕ) (l : Level) (position : ℕ) (e : Element) where
-  pub opened-refused : (n p : ℕ) → visit strict s l position e ≡ refuses n p → refuses n p ≡ opened strict (walkUnder limit strict) s l position e
+  pub opened-refused : (n p : ℕ) → visit strict s l position e ≡ refuses n p
+      → refuses n p ≡ opened strict (walkUnder limit strict) s l position e
   unfolding opened
   opened-refused n p v = rw v
 
@@ -83,14 +84,16 @@ pub record Enters (s : List ℕ) (l : Level) (c : Cursor) (levels : ℕ) (inner 
   pub few : levels ≤ 2
 
 pub enters : (strict : Bool) (s : List ℕ) (l : Level) (position : ℕ) (c : Cursor) (e : Element) → FramedAt s c e
-    → (isArray : Bool) (levels : ℕ) (inner : Part) → visit strict s l position e ≡ gives (opens isArray levels inner) → Enters s l c levels inner
+    → (isArray : Bool) (levels : ℕ) (inner : Part) → visit strict s l position e ≡ gives (opens isArray levels inner)
+    → Enters s l c levels inner
 enters strict s l position c e y isArray levels inner v =
     let r = visit-says strict s l position e _ v in
     let o = value-opens s c e y (r .value) (r .reads) isArray levels inner (r .is) in
     record { ends = omega arith; shorter = omega arith; shallow = r .shallow; few = levels-few (r .value) isArray levels inner (r .is) }
 
 -- what a visit answered, by the case that it turned out to be
-pub visited-is : (p : ℕ) (a : Answer Opening) (r : Visited) (o : declared.Opening) → saidVisited p r ≡ a → r ≡ Is o → a ≡ gives (saidOpening o)
+pub visited-is : (p : ℕ) (a : Answer Opening) (r : Visited) (o : declared.Opening) → saidVisited p r ≡ a → r ≡ Is o
+    → a ≡ gives (saidOpening o)
 unfolding saidVisited
 visited-is p a r o e q = answered (saidVisited p) e q
 
@@ -100,7 +103,8 @@ visited-refused p a r n e q = answered (saidVisited p) e q
 
 -- the walk is what is left of it from an offset on, and the values counted before
 abbrev pub LeftFrom : Limit → Bool → List ℕ → Level → ℕ → ℕ → ℕ → Type 0
-LeftFrom limit strict s l offset count position = walkUnder limit strict s l ≡ (then (walkFrom limit strict s l position offset) λ n. gives (count + n))
+LeftFrom limit strict s l offset count position =
+    walkUnder limit strict s l ≡ (then (walkFrom limit strict s l position offset) λ n. gives (count + n))
 
 then-again : (x : Answer ℕ) → x ≡ (then x λ n. gives (0 + n))
 then-again (gives n) = ap gives (omega arith)
@@ -109,20 +113,24 @@ then-again (refuses n p) = refl
 pub left-first : (limit : Limit) (strict : Bool) (s : List ℕ) (l : Level) → LeftFrom limit strict s l 4 0 0
 left-first limit strict s l = walk-eq limit strict s l ∙ then-again _
 
-module _ (limit : Limit) (strict : Bool) (s : List ℕ) (l : Level) (offset count position : ℕ) (left : LeftFrom limit strict s l offset count position) where
+module _ (limit : Limit) (strict : Bool) (s : List ℕ) (l : Level) (offset count position : ℕ)
+    (left : LeftFrom limit strict s l offset count position) where
   pub left-ends : stepUnder limit s (cursor offset false) ≡ gives end → gives count ≡ walkUnder limit strict s l
   left-ends e = sym (left ∙ rw (walk-ends limit strict s l position offset e) (ap gives (omega arith)))
 
-  pub left-refused : (n p : ℕ) → stepUnder limit s (cursor offset false) ≡ refuses n p → refuses n (l .base + p) ≡ walkUnder limit strict s l
+  pub left-refused : (n p : ℕ) → stepUnder limit s (cursor offset false) ≡ refuses n p
+      → refuses n (l .base + p) ≡ walkUnder limit strict s l
   left-refused n p e = sym (left ∙ rw (walk-refused limit strict s l position offset n p e))
 
   module _ (e : Element) (y : stepUnder limit s (cursor offset false) ≡ gives (yield e)) where
-    pub left-value-refused : (n p : ℕ) → refuses n p ≡ opened strict (walkUnder limit strict) s l position e → refuses n p ≡ walkUnder limit strict s l
+    pub left-value-refused : (n p : ℕ) → refuses n p ≡ opened strict (walkUnder limit strict) s l position e
+        → refuses n p ≡ walkUnder limit strict s l
     left-value-refused n p o = sym (left ∙ rw (walk-onward limit strict s l position offset e y, ← o))
 
     pub left-onward : (values : ℕ) → gives values ≡ opened strict (walkUnder limit strict) s l position e
         → LeftFrom limit strict s l (past e) (count + values) (suc position)
-    left-onward values o = left ∙ rw (walk-onward limit strict s l position offset e y, ← o) (counted (walkFrom limit strict s l (suc position) (past e)))
+    left-onward values o =
+        left ∙ rw (walk-onward limit strict s l position offset e y, ← o) (counted (walkFrom limit strict s l (suc position) (past e)))
       where
         counted : (x : Answer ℕ) → (then (then x λ m. gives (values + m)) λ n. gives (count + n)) ≡ (then x λ n. gives (count + values + n))
         counted (gives n) = ap gives (omega arith)

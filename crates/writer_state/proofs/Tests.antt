@@ -15,7 +15,8 @@ module _ (w : List ℕ) (i end : ℕ) where
   unfolding stands
   start-late h = rw (lt-leb _ _ h)
 
-  pub kind-holds : (a : Answer Kind) (b : Bool) → start w i + 4 ≤ end → kindOf (mark w i) ≡ a → b ≡ passes (kindHolds (used w)) a → b ≡ stands w i end
+  pub kind-holds : (a : Answer Kind) (b : Bool) → start w i + 4 ≤ end → kindOf (mark w i) ≡ a → b ≡ passes (kindHolds (used w)) a
+      → b ≡ stands w i end
   unfolding stands
   kind-holds a b h e f = rw (le-leb _ _ h, e) f
 
@@ -49,7 +50,8 @@ module _ (w : List ℕ) (room d : ℕ) (ed : d ≡ depth w) where
   open-decide h u eu g b e = rw (le-leb (depth w) 202 (omega arith), le-leb (used w + depth w) room (omega arith), ← ed) e
 
   -- and the kind of the innermost
-  pub innermost-told : (b : Bool) → b ≡ possible w room → b ≡ true → 0 < d → (a : Answer Kind) → a ≡ kindOf (mark w (d - 1)) → a ≡ innermost w room
+  pub innermost-told : (b : Bool) → b ≡ possible w room → b ≡ true → 0 < d → (a : Answer Kind) → a ≡ kindOf (mark w (d - 1))
+      → a ≡ innermost w room
   unfolding innermost
   innermost-told b eb t h a e = rw (← eb, t, ← ed, lt-ltb 0 d h) e
 

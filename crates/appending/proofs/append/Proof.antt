@@ -11,7 +11,8 @@ sub-at : tie.Need-sub-at
 sub-at c =
     let h = c .before .before .before .before .before in
     let a = h .before .before .before .before .before .before .before .before .before .before .args in
-    let f = runs-fit _ _ _ _ _ _ (a .p .now) (a .q .now) (a .r .now) (a .s .now) _ (h .before .before .before .total .ensures) _ _ _ (h .head .ensures) (c .before .before .if1 .taken) in
+    let f = runs-fit _ _ _ _ _ _ (a .p .now) (a .q .now) (a .r .now) (a .s .now) _ (h .before .before .before .total .ensures) _ _ _
+    (h .head .ensures) (c .before .before .if1 .taken) in
     omega (arith, c .used .ensures .0)
 
 returns : tie.Need-returns
@@ -26,7 +27,8 @@ returns-2 : tie.Need-returns-2
 returns-2 c =
     let h = c .before .before .before in
     let a = h .before .before .before .before .before .before .before .before .before .before .args in
-    runs-refused _ _ _ _ _ _ (a .p .now) (a .q .now) (a .r .now) (a .s .now) _ (h .before .before .before .total .ensures) _ _ _ (h .head .ensures) (c .if1 .left)
+    runs-refused _ _ _ _ _ _ (a .p .now) (a .q .now) (a .r .now) (a .s .now) _ (h .before .before .before .total .ensures) _ _ _
+    (h .head .ensures) (c .if1 .left)
 
 pub append-spec : {M : Type 1} → statement M
 append-spec =

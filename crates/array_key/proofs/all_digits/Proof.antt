@@ -16,7 +16,8 @@ use Rattle.array_key.proofs.all_digits.Tie as tie
 abbrev digit : ℕ → Bool
 digit b = leb 48 b && leb b 57
 
-digits-here : (key : List ℕ) (i : ℕ) (d : Bool) → i < length key → digit (getD key i 0) ≡ d → allDigits (drop i key) ≡ d && allDigits (drop (i + 1) key)
+digits-here : (key : List ℕ) (i : ℕ) (d : Bool) → i < length key → digit (getD key i 0) ≡ d
+    → allDigits (drop i key) ≡ d && allDigits (drop (i + 1) key)
 digits-here key i d h e = rw (add-one, drop-cons key i 0 h, e)
 
 abbrev Inv-loop : tie.InvT-loop

@@ -11,7 +11,8 @@ returns-2 : tie.Need-returns-2
 returns-2 c =
     let p = c .before .before .before in
     let t = p .before in
-    rw (t .before .before .r2 .given .1) (value-read _ _ _ _ _ (t .tag-and-bits .ensures .0) (t .tag-and-bits .ensures .1) (p .parts-of .ensures))
+    rw (t .before .before .r2 .given .1)
+    (value-read _ _ _ _ _ (t .tag-and-bits .ensures .0) (t .tag-and-bits .ensures .1) (p .parts-of .ensures))
 
 pub of-reading-spec : {M : Type 1} → statement M
 of-reading-spec =

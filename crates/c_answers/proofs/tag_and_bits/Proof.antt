@@ -43,7 +43,13 @@ returns-9 : tie.Need-returns-9
 unfolding tagOf bitsOf
 returns-9 c =
     let v = c .before .before in
-    rw (v .value4 .given .1) (refl, passed w64 (v .value4 .given .0 .0) (record { sfits = c .before .known-told4 .given .0 .1 }) signedBits (c .bits64 .ensures))
+    rw (v .value4 .given .1) (
+      refl,
+      passed w64 (v .value4 .given .0 .0) (record {
+        sfits =
+            c .before .known-told4 .given .0 .1;
+      }) signedBits (c .bits64 .ensures),
+    )
 
 returns-10 : tie.Need-returns-10
 unfolding tagOf bitsOf
@@ -73,7 +79,13 @@ returns-16 : tie.Need-returns-16
 unfolding tagOf bitsOf
 returns-16 c =
     let v = c .before .before in
-    rw (v .value5 .given .1) (refl, passed w32 (v .value5 .given .0 .0) (record { sfits = c .before .known-told5 .given .0 .1 }) signedBits (c .of-int32 .ensures))
+    rw (v .value5 .given .1) (
+      refl,
+      passed w32 (v .value5 .given .0 .0) (record {
+        sfits =
+            c .before .known-told5 .given .0 .1;
+      }) signedBits (c .of-int32 .ensures),
+    )
 
 returns-17 : tie.Need-returns-17
 unfolding tagOf bitsOf
@@ -83,7 +95,13 @@ returns-18 : tie.Need-returns-18
 unfolding tagOf bitsOf
 returns-18 c =
     let v = c .before .before in
-    rw (v .value7 .given .1) (refl, passed w64 (v .value7 .given .0 .0) (record { sfits = c .before .known-told7 .given .0 .1 }) signedBits (c .bits642 .ensures))
+    rw (v .value7 .given .1) (
+      refl,
+      passed w64 (v .value7 .given .0 .0) (record {
+        sfits =
+            c .before .known-told7 .given .0 .1;
+      }) signedBits (c .bits642 .ensures),
+    )
 
 returns-19 : tie.Need-returns-19
 unfolding tagOf bitsOf

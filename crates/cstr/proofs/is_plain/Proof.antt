@@ -29,7 +29,8 @@ loop-again c =
 
 returns-2 : tie.Need-returns-2 Inv-loop μ-loop
 returns-2 c =
-    ap (λ (n : ℕ). eqb n (length (c .before .before .before .before .args .k .now))) (c .plain-rest .ensures ∙ c .before .before .loop .inv .1)
+    ap (λ (n : ℕ). eqb n (length (c .before .before .before .before .args .k .now)))
+    (c .plain-rest .ensures ∙ c .before .before .loop .inv .1)
 
 pub is-plain-spec : {M : Type 1} → statement M
 is-plain-spec =

@@ -29,7 +29,8 @@ returns-3 c =
     let a = b .before .before .before .before .args in
     let n = a .offset + 1 in
     let e = before-not stopsAt (a .v .now) (a .offset) n (omega arith) (omega arith) (sym (b .before .stops .ensures) ∙ b .if1 .left) in
-    let f = before-not stopsAt (a .v .now) n (a .offset + 2) (omega arith) (omega arith) (sym (c .before .stops2 .ensures) ∙ c .if2 .left) in
+    let f = before-not stopsAt (a .v .now) n (a .offset + 2) (omega arith) (omega arith)
+    (sym (c .before .stops2 .ensures) ∙ c .if2 .left) in
     record { most = omega arith; stopped = λ h. omega arith; passed = λ h. omega arith }
 
 pub plain-of-two-spec : {M : Type 1} → statement M

@@ -26,7 +26,8 @@ loop-again : tie.Need-loop-again Inv-loop μ-loop
 loop-again c =
     let b = c .before .before .before .before in
     let v = b .before .before .args .v .now in
-    let e = before-not stopsAt v (b .loop .i) (b .loop .i + 1) (omega arith) (omega arith) (sym (c .before .stops .ensures) ∙ c .if1 .left) in
+    let e = before-not stopsAt v (b .loop .i) (b .loop .i + 1) (omega arith) (omega arith)
+    (sym (c .before .stops .ensures) ∙ c .if1 .left) in
     (omega arith, omega arith)
 
 returns-2 : tie.Need-returns-2 Inv-loop μ-loop

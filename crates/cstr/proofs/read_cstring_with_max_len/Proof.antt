@@ -14,7 +14,8 @@ returns c =
 
 returns-2 : tie.Need-returns-2
 unfolding cstringUnder
-returns-2 c = rw (← c .before .before .before .before .before .before .cut .ensures, ← c .before .number-of .ensures) (c .read-mixed .ensures)
+returns-2 c =
+    rw (← c .before .before .before .before .before .before .cut .ensures, ← c .before .number-of .ensures) (c .read-mixed .ensures)
 
 returns-3 : tie.Need-returns-3
 unfolding cstringUnder

@@ -9,7 +9,8 @@ returns c =
     let t = c .before .before in
     let s = t .before .before in
     let f = s .before .before in
-    stop-in-four _ _ (f .before .before .before .pre) _ _ _ _ (f .stops .ensures) (s .stops2 .ensures) (t .stops3 .ensures) (c .stops4 .ensures)
+    stop-in-four _ _ (f .before .before .before .pre) _ _ _ _ (f .stops .ensures) (s .stops2 .ensures) (t .stops3 .ensures)
+    (c .stops4 .ensures)
 
 pub stops-in-four-spec : {M : Type 1} → statement M
 stops-in-four-spec =

@@ -31,7 +31,10 @@ add-result : tie.Need-add-result
 add-result c =
     let b = c .before .before .before .before in
     let a = b .before .before .before .before .args in
-    omega (arith, leb-true (a .at + b .before .before .width-of .result) (length (a .out .now)) (sym (b .before .fits2 .ensures) ∙ b .if1 .taken))
+    omega (
+      arith,
+      leb-true (a .at + b .before .before .width-of .result) (length (a .out .now)) (sym (b .before .fits2 .ensures) ∙ b .if1 .taken),
+    )
 
 returns : tie.Need-returns
 returns c =

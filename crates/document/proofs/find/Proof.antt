@@ -64,7 +64,9 @@ enum-told : tie.Need-enum-told Inv-loop μ-loop
 enum-told c = c .match .keys1
 
 returns : tie.Need-returns Inv-loop μ-loop
-returns c = ends _ _ _ _ _ (c .before .before .before .loop .inv) (answered (saidSizes _) (c .before .before .sizes-at .ensures) (c .enum-told .given .1))
+returns c =
+    ends _ _ _ _ _ (c .before .before .before .loop .inv)
+    (answered (saidSizes _) (c .before .before .sizes-at .ensures) (c .enum-told .given .1))
 
 enum-known-number : tie.Need-enum-known-number Inv-loop μ-loop
 enum-known-number c = c .match .keys2
@@ -72,7 +74,8 @@ enum-known-number c = c .match .keys2
 returns-2 : tie.Need-returns-2 Inv-loop μ-loop
 returns-2 c =
     let b = c .before in
-    refused _ _ _ _ _ (b .before .before .before .loop .inv) _ _ (answered (saidSizes _) (b .before .before .sizes-at .ensures) (b .number .given .1))
+    refused _ _ _ _ _ (b .before .before .before .loop .inv) _ _
+    (answered (saidSizes _) (b .before .before .sizes-at .ensures) (b .number .given .1))
 
 enum-known-tag : tie.Need-enum-known-tag Inv-loop μ-loop
 enum-known-tag c = c .match .keys3
@@ -80,22 +83,38 @@ enum-known-tag c = c .match .keys3
 add-start : tie.Need-add-start Inv-loop μ-loop
 add-start c =
     let b = c .before in
-    omega (arith, inside _ _ _ _ _ (b .before .before .before .loop .inv) _ _ _ (answered (saidSizes _) (b .before .before .sizes-at .ensures) (b .tag .given .1)))
+    omega (
+      arith,
+      inside _ _ _ _ _ (b .before .before .before .loop .inv) _ _ _
+          (answered (saidSizes _) (b .before .before .sizes-at .ensures) (b .tag .given .1)),
+    )
 
 add-zero : tie.Need-add-zero Inv-loop μ-loop
 add-zero c =
     let b = c .before in
-    omega (arith, inside _ _ _ _ _ (b .before .before .before .loop .inv) _ _ _ (answered (saidSizes _) (b .before .before .sizes-at .ensures) (b .tag .given .1)))
+    omega (
+      arith,
+      inside _ _ _ _ _ (b .before .before .before .loop .inv) _ _ _
+          (answered (saidSizes _) (b .before .before .sizes-at .ensures) (b .tag .given .1)),
+    )
 
 add-behind : tie.Need-add-behind Inv-loop μ-loop
 add-behind c =
     let b = c .before in
-    omega (arith, inside _ _ _ _ _ (b .before .before .before .loop .inv) _ _ _ (answered (saidSizes _) (b .before .before .sizes-at .ensures) (b .tag .given .1)))
+    omega (
+      arith,
+      inside _ _ _ _ _ (b .before .before .before .loop .inv) _ _ _
+          (answered (saidSizes _) (b .before .before .sizes-at .ensures) (b .tag .given .1)),
+    )
 
 part-equal-end : tie.Need-part-equal-end Inv-loop μ-loop
 part-equal-end c =
     let b = c .before in
-    omega (arith, inside _ _ _ _ _ (b .before .before .before .loop .inv) _ _ _ (answered (saidSizes _) (b .before .before .sizes-at .ensures) (b .tag .given .1)))
+    omega (
+      arith,
+      inside _ _ _ _ _ (b .before .before .before .loop .inv) _ _ _
+          (answered (saidSizes _) (b .before .before .sizes-at .ensures) (b .tag .given .1)),
+    )
 
 returns-3 : tie.Need-returns-3 Inv-loop μ-loop
 returns-3 c =
@@ -106,12 +125,20 @@ returns-3 c =
 add-place : tie.Need-add-place Inv-loop μ-loop
 add-place c =
     let b = c .before .before .before .before in
-    omega (arith, inside _ _ _ _ _ (b .before .before .before .loop .inv) _ _ _ (answered (saidSizes _) (b .before .before .sizes-at .ensures) (b .tag .given .1)))
+    omega (
+      arith,
+      inside _ _ _ _ _ (b .before .before .before .loop .inv) _ _ _
+          (answered (saidSizes _) (b .before .before .sizes-at .ensures) (b .tag .given .1)),
+    )
 
 loop-less : tie.Need-loop-less Inv-loop μ-loop
 loop-less c =
     let b = c .before .before .before .before in
-    omega (arith, inside _ _ _ _ _ (b .before .before .before .loop .inv) _ _ _ (answered (saidSizes _) (b .before .before .sizes-at .ensures) (b .tag .given .1)))
+    omega (
+      arith,
+      inside _ _ _ _ _ (b .before .before .before .loop .inv) _ _ _
+          (answered (saidSizes _) (b .before .before .sizes-at .ensures) (b .tag .given .1)),
+    )
 
 loop-again : tie.Need-loop-again Inv-loop μ-loop
 loop-again c =

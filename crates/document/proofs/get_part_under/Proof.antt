@@ -16,7 +16,8 @@ returns-2 : tie.Need-returns-2
 unfolding getPartUnder
 returns-2 c =
     let b = c .before .before .before in
-    rw (answered said (b .before .before .get-with-under .ensures) (b .value .given .1)) (c .bytes-of .ensures ∙ ap (bytes _) (c .before .part-of .ensures))
+    rw (answered said (b .before .before .get-with-under .ensures) (b .value .given .1))
+    (c .bytes-of .ensures ∙ ap (bytes _) (c .before .part-of .ensures))
 
 pub get-part-under-spec : {M : Type 1} → statement M
 get-part-under-spec =

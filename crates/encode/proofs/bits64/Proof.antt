@@ -15,7 +15,8 @@ cast-result-2 : tie.Need-cast-result-2
 cast-result-2 c = negative-casts w64 (c .before .args .n) (c .before .fits .n) (c .if1 .left)
 
 sub-result-2 : tie.Need-sub-result-2
-sub-result-2 c = negative-below w64 (c .before .args .n) (c .before .fits .n) (c .if1 .left) 0x8000_0000_0000_0000 0xFFFF_FFFF_FFFF_FFFF refl refl
+sub-result-2 c =
+    negative-below w64 (c .before .args .n) (c .before .fits .n) (c .if1 .left) 0x8000_0000_0000_0000 0xFFFF_FFFF_FFFF_FFFF refl refl
 
 returns : tie.Need-returns
 returns c = positive-stays w64 (c .before .args .n) (c .before .fits .n) (c .if1 .taken) 0x8000_0000_0000_0000

@@ -16,7 +16,8 @@ returns c =
     let a = c .before .before .before .before in
     let s = a .before .before .before .before .before in
     performed-through _ _ _ _ _ _ _
-    (passed w64 (s .args .n) (s .fits .n) (λ (n : ℤ). performed (append (s .args .key .now) (dateTime n)) (s .args .words .now) (s .args .out .now)) (a .append-datetime .ensures))
+    (passed w64 (s .args .n) (s .fits .n) (λ (n : ℤ). performed (append (s .args .key .now) (dateTime n)) (s .args .words .now)
+    (s .args .out .now)) (a .append-datetime .ensures))
     (c .of-written .ensures)
 
 pub fringewell-append-datetime-spec : {M : Type 1} → statement M

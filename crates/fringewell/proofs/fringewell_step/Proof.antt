@@ -8,7 +8,8 @@ use Rattle.fringewell.proofs.fringewell_step.Tie as tie
 returns : tie.Need-returns
 returns c =
     let s = c .before .before .before in
-    step-through unlimited (s .args .document .now) (cursor (s .args .offset) (s .args .ended)) (c .before .next .result) _ (c .before .next .ensures) (c .of-step .ensures)
+    step-through unlimited (s .args .document .now) (cursor (s .args .offset) (s .args .ended)) (c .before .next .result) _
+    (c .before .next .ensures) (c .of-step .ensures)
 
 pub fringewell-step-spec : {M : Type 1} → statement M
 fringewell-step-spec = tie.close (tie.spec (λ c κs. tt) (λ c κs. tt) returns)

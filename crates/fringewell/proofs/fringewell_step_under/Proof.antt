@@ -12,7 +12,8 @@ returns c =
     let s = c .before .before .before .before in
     let m = c .before .before .most-of .ensures in
     let at-cursor = cursor (s .args .offset) (s .args .ended) in
-    step-through _ (s .args .document .now) at-cursor (c .before .next-under .result) _ (c .before .next-under .ensures) (c .of-step .ensures)
+    step-through _ (s .args .document .now) at-cursor (c .before .next-under .result) _ (c .before .next-under .ensures)
+    (c .of-step .ensures)
     ∙ step-passed _ _ m _ (omega arith) at-cursor
 
 pub fringewell-step-under-spec : {M : Type 1} → statement M

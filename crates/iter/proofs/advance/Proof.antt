@@ -17,16 +17,24 @@ enum-known-tag : tie.Need-enum-known-tag
 enum-known-tag c = c .match .keys3
 
 add-start : tie.Need-add-start
-add-start c = let b = c .before in omega (arith, step-yields _ _ _ _ (answered (saidSizes _) (b .before .before .sizes-at .ensures) (b .tag .given .1)) .inside)
+add-start c =
+    let b = c .before in
+    omega (arith, step-yields _ _ _ _ (answered (saidSizes _) (b .before .before .sizes-at .ensures) (b .tag .given .1)) .inside)
 
 add-behind : tie.Need-add-behind
-add-behind c = let b = c .before in omega (arith, step-yields _ _ _ _ (answered (saidSizes _) (b .before .before .sizes-at .ensures) (b .tag .given .1)) .inside)
+add-behind c =
+    let b = c .before in
+    omega (arith, step-yields _ _ _ _ (answered (saidSizes _) (b .before .before .sizes-at .ensures) (b .tag .given .1)) .inside)
 
 add-behind-2 : tie.Need-add-behind-2
-add-behind-2 c = let b = c .before in omega (arith, step-yields _ _ _ _ (answered (saidSizes _) (b .before .before .sizes-at .ensures) (b .tag .given .1)) .inside)
+add-behind-2 c =
+    let b = c .before in
+    omega (arith, step-yields _ _ _ _ (answered (saidSizes _) (b .before .before .sizes-at .ensures) (b .tag .given .1)) .inside)
 
 add-end : tie.Need-add-end
-add-end c = let b = c .before in omega (arith, step-yields _ _ _ _ (answered (saidSizes _) (b .before .before .sizes-at .ensures) (b .tag .given .1)) .inside)
+add-end c =
+    let b = c .before in
+    omega (arith, step-yields _ _ _ _ (answered (saidSizes _) (b .before .before .sizes-at .ensures) (b .tag .given .1)) .inside)
 
 returns : tie.Need-returns
 returns c = rw (answered (saidSizes _) (c .before .before .sizes-at .ensures) (c .enum-told .given .1)) (refl, refl)

@@ -20,7 +20,8 @@ use Rattle.iter.proofs.element_at.Tie as tie
 abbrev rest : List ℕ → ℕ → List ℕ
 rest s a = take (length s - a) (drop a s)
 
-key-refuses : (limit : Limit) (s : List ℕ) (p n k : ℕ) → cstringUnder limit (rest s (p + 1)) ≡ refuses n k → refuses n p ≡ at p (yieldingUnder limit s p)
+key-refuses : (limit : Limit) (s : List ℕ) (p n k : ℕ) → cstringUnder limit (rest s (p + 1)) ≡ refuses n k
+    → refuses n p ≡ at p (yieldingUnder limit s p)
 unfolding elementUnder
 key-refuses limit s p n k e = rw (← ap (cstringUnder limit) (rest-part s (p + 1)), e)
 
@@ -32,8 +33,10 @@ module _ (limit : Limit) (s : List ℕ) (p k : ℕ) (key : cstringUnder limit (r
   valued : (x : Answer ℕ) → valueSizeUnder limit (getD s p 0) (rest s (p + 1 + k + 1)) ≡ x
       → at p (then x (λ n. gives (yield (sized p (getD s p 0) k n)))) ≡ at p (yieldingUnder limit s p)
   unfolding elementUnder
-  valued (gives n) e = rw (← ap (cstringUnder limit) (rest-part s (p + 1)), key, ← ap (valueSizeUnder limit _) (rest-part s (p + 1 + k + 1)), e)
-  valued (refuses n q) e = rw (← ap (cstringUnder limit) (rest-part s (p + 1)), key, ← ap (valueSizeUnder limit _) (rest-part s (p + 1 + k + 1)), e)
+  valued (gives n) e =
+      rw (← ap (cstringUnder limit) (rest-part s (p + 1)), key, ← ap (valueSizeUnder limit _) (rest-part s (p + 1 + k + 1)), e)
+  valued (refuses n q) e =
+      rw (← ap (cstringUnder limit) (rest-part s (p + 1)), key, ← ap (valueSizeUnder limit _) (rest-part s (p + 1 + k + 1)), e)
 
 enum-known-number : tie.Need-enum-known-number
 enum-known-number c = c .match .keys1
@@ -45,25 +48,37 @@ add-offset : tie.Need-add-offset
 add-offset c =
     let b = c .before .before in
     let a = b .before .before .before .before .before .args in
-    omega (arith, key-below _ (a .s .now) (a .place) _ (answered saidLength (b .before .before .read-cstring-with-max-len .ensures) (b .key .given .1)))
+    omega (
+      arith,
+      key-below _ (a .s .now) (a .place) _ (answered saidLength (b .before .before .read-cstring-with-max-len .ensures) (b .key .given .1)),
+    )
 
 add-offset-2 : tie.Need-add-offset-2
 add-offset-2 c =
     let b = c .before .before in
     let a = b .before .before .before .before .before .args in
-    omega (arith, key-below _ (a .s .now) (a .place) _ (answered saidLength (b .before .before .read-cstring-with-max-len .ensures) (b .key .given .1)))
+    omega (
+      arith,
+      key-below _ (a .s .now) (a .place) _ (answered saidLength (b .before .before .read-cstring-with-max-len .ensures) (b .key .given .1)),
+    )
 
 sub-value-len : tie.Need-sub-value-len
 sub-value-len c =
     let b = c .before .before in
     let a = b .before .before .before .before .before .args in
-    omega (arith, key-below _ (a .s .now) (a .place) _ (answered saidLength (b .before .before .read-cstring-with-max-len .ensures) (b .key .given .1)))
+    omega (
+      arith,
+      key-below _ (a .s .now) (a .place) _ (answered saidLength (b .before .before .read-cstring-with-max-len .ensures) (b .key .given .1)),
+    )
 
 part-value-len-start : tie.Need-part-value-len-start
 part-value-len-start c =
     let b = c .before .before in
     let a = b .before .before .before .before .before .args in
-    omega (arith, key-below _ (a .s .now) (a .place) _ (answered saidLength (b .before .before .read-cstring-with-max-len .ensures) (b .key .given .1)))
+    omega (
+      arith,
+      key-below _ (a .s .now) (a .place) _ (answered saidLength (b .before .before .read-cstring-with-max-len .ensures) (b .key .given .1)),
+    )
 
 enum-known-number-2 : tie.Need-enum-known-number-2
 enum-known-number-2 c = c .match2 .keys1
@@ -72,7 +87,9 @@ enum-known-value : tie.Need-enum-known-value
 enum-known-value c = c .match2 .keys2
 
 returns : tie.Need-returns
-returns c = key-refuses _ _ _ _ _ (answered saidLength (c .before .before .before .read-cstring-with-max-len .ensures) (c .before .number .given .1))
+returns c =
+    key-refuses _ _ _ _ _
+    (answered saidLength (c .before .before .before .read-cstring-with-max-len .ensures) (c .before .number .given .1))
 
 returns-2 : tie.Need-returns-2
 returns-2 c =

@@ -31,7 +31,8 @@ module _ (s : List ℕ) (n offset : ℕ) (a : admitted s ≡ gives n) where
     inside : offset < n - 1 → 4 ≤ offset → stepUnder limit s (cursor offset false) ≡ at offset (yieldingUnder limit s offset)
     inside high low =
         let l = last in
-        step-inside limit s n a offset (rw (le-leb 4 offset low, le-leb offset (terminator s) (omega arith))) (ne-eqb offset (terminator s) (λ (q : offset ≡ terminator s). omega arith))
+        step-inside limit s n a offset (rw (le-leb 4 offset low, le-leb offset (terminator s) (omega arith)))
+        (ne-eqb offset (terminator s) (λ (q : offset ≡ terminator s). omega arith))
 
     before : offset < 4 → stepUnder limit s (cursor offset false) ≡ refuses 4 offset
     before h = step-outside limit s n a offset (rw (lt-leb 4 offset h))
@@ -75,7 +76,8 @@ returns-3 c =
     sym (ends _ _ _ (answered saidLength (b .before .before .admit .ensures) (b .n .given .1)) _ (c .if3 .taken))
 
 returns-4 : tie.Need-returns-4
-returns-4 c = sym (step-unadmitted _ _ _ _ _ (answered saidLength (c .before .before .before .admit .ensures) (c .before .number .given .1)))
+returns-4 c =
+    sym (step-unadmitted _ _ _ _ _ (answered saidLength (c .before .before .before .admit .ensures) (c .before .number .given .1)))
 
 returns-5 : tie.Need-returns-5
 returns-5 c =

@@ -13,7 +13,9 @@ enum-told : tie.Need-enum-told
 enum-told c = c .match .keys2
 
 returns : tie.Need-returns
-returns c = rw (step-unadmitted _ _ _ _ _ (answered saidLength (c .before .before .before .admit .ensures) (c .before .number .given .1))) (refl, refl)
+returns c =
+    rw (step-unadmitted _ _ _ _ _ (answered saidLength (c .before .before .before .admit .ensures) (c .before .number .given .1)))
+    (refl, refl)
 
 returns-2 : tie.Need-returns-2
 returns-2 c = rw (step-ended _ _ _ (answered saidLength (c .before .before .admit .ensures) (c .enum-told .given .1))) (refl, refl)

@@ -20,14 +20,16 @@ returns : tie.Need-returns
 returns c =
     let m = c .before .before in
     let s = m .before .before .before .before .before in
-    first-refused (s .args .first .now) (s .args .second .now) (s .args .out .now) _ _ (answered said (m .before .check .ensures) (c .before .number .given .1))
+    first-refused (s .args .first .now) (s .args .second .now) (s .args .out .now) _ _
+    (answered said (m .before .check .ensures) (c .before .number .given .1))
 
 returns-2 : tie.Need-returns-2
 returns-2 c =
     let n = c .before .before in
     let m = n .before .before .before in
     let s = m .before .before .before .before .before in
-    second-refused (s .args .first .now) (s .args .second .now) (s .args .out .now) _ (answered said (m .before .check .ensures) (n .before .before .enum-told .given .1)) _ _
+    second-refused (s .args .first .now) (s .args .second .now) (s .args .out .now) _
+    (answered said (m .before .check .ensures) (n .before .before .enum-told .given .1)) _ _
     (answered said (n .before .check2 .ensures) (c .before .number2 .given .1))
 
 returns-3 : tie.Need-returns-3
@@ -36,7 +38,8 @@ returns-3 c =
     let n = p .before .before .before in
     let m = n .before .before .before in
     let s = m .before .before .before .before .before in
-    both-pass (s .args .first .now) (s .args .second .now) (s .args .out .now) _ (answered said (m .before .check .ensures) (n .before .before .enum-told .given .1)) _
+    both-pass (s .args .first .now) (s .args .second .now) (s .args .out .now) _
+    (answered said (m .before .check .ensures) (n .before .before .enum-told .given .1)) _
     (answered said (n .before .check2 .ensures) (p .before .before .enum-told2 .given .1)) _ (p .put-both .ensures)
 
 pub join-spec : {M : Type 1} → statement M

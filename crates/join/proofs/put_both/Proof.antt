@@ -28,7 +28,8 @@ returns-2 c =
     let tested = made .before in
     let s = tested .before .before .before .before .before in
     has-room (s .args .first .now) (s .args .second .now) (s .args .out .now) _ (tested .before .room-of .ensures) (s .pre .0) (s .pre .1)
-    (tested .if1 .left) _ _ _ _ _ _ _ _ _ (made .bytes32 .ensures) (one .put-text .ensures) (two .put-text2 .ensures) (three .put-text3 .ensures) (four .put-text4 .ensures)
+    (tested .if1 .left) _ _ _ _ _ _ _ _ _ (made .bytes32 .ensures) (one .put-text .ensures) (two .put-text2 .ensures)
+    (three .put-text3 .ensures) (four .put-text4 .ensures)
 
 pub put-both-spec : {M : Type 1} → statement M
 put-both-spec =

@@ -46,7 +46,8 @@ returns c =
     (answered said (i .innermost .ensures) (c .before .before .before .before .before .before .before .before .before .before .enum-told
     .given .1)) _ _
     (c .before .before .before .before .before .before .before .before .used .ensures .0)
-    (c .before .before .before .before .before .before .start-of .ensures) _ (c .before .before .before .before .seal .ensures) _ (c .pop .ensures)
+    (c .before .before .before .before .before .before .start-of .ensures) _ (c .before .before .before .before .seal .ensures) _
+    (c .pop .ensures)
 
 returns-2 : tie.Need-returns-2
 returns-2 c =

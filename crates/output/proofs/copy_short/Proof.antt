@@ -25,8 +25,12 @@ loop-again c =
     let f = c .before .before in
     let l = f .before .before .before .loop in
     let s = f .before .before .before .before .before .before in
-    let b = ap (λ (b : List ℕ). put b (s .args .at + l .i) (take 4 (drop (l .i) (s .args .text .now)))) (l .inv .2) in
-    (omega arith, f .copy-four .kept .0 ∙ l .inv .1, f .copy-four .ensures ∙ b ∙ then-more (s .args .out .now) (s .args .at) (s .args .text .now) (l .i) (omega arith) (omega arith) 4 (omega arith))
+    let b = ap (λ (b : List ℕ). put b (s .args .at + l .i) (take 4 (drop (l .i) (s .args .text .now)))) (l .inv .2) in (
+      omega arith,
+      f .copy-four .kept .0 ∙ l .inv .1,
+      f .copy-four .ensures ∙ b
+          ∙ then-more (s .args .out .now) (s .args .at) (s .args .text .now) (l .i) (omega arith) (omega arith) 4 (omega arith),
+    )
 
 returns : tie.Need-returns Inv-loop μ-loop
 returns c =

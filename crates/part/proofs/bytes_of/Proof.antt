@@ -21,7 +21,8 @@ returns-2 : tie.Need-returns-2
 unfolding bytes
 returns-2 c =
     let a = c .before .before .before .args in
-    rw rest-part (sym (take-all (a .part .size) (drop (a .part .offset) (a .s .now)) (omega (arith, length-drop (a .part .offset) (a .s .now)))))
+    rw rest-part
+    (sym (take-all (a .part .size) (drop (a .part .offset) (a .s .now)) (omega (arith, length-drop (a .part .offset) (a .s .now)))))
 
 slice-aggregate-result-2 : tie.Need-slice-aggregate-result-2
 slice-aggregate-result-2 c = sym (length-take-le _ _ (omega arith))

@@ -42,7 +42,13 @@ returns-5 c =
     let b = c .before .before in
     let d = b .before .before .before .before in
     let e = in-front-is 4 le32 _ _ (answered saidUint32 (d .before .before .u32-from-slice .ensures) (d .n .given .1)) in
-    rw (le-leb _ _ (b .before .before .if1 .left), e .1, lt-ltb _ _ (b .before .if2 .left), eq-eqb _ _ (b .if3 .left), eq-eqb _ _ (c .if4 .taken))
+    rw (
+      le-leb _ _ (b .before .before .if1 .left),
+      e .1,
+      lt-ltb _ _ (b .before .if2 .left),
+      eq-eqb _ _ (b .if3 .left),
+      eq-eqb _ _ (c .if4 .taken),
+    )
 
 returns-6 : tie.Need-returns-6
 unfolding admitted
@@ -50,7 +56,13 @@ returns-6 c =
     let b = c .before .before in
     let d = b .before .before .before .before in
     let e = in-front-is 4 le32 _ _ (answered saidUint32 (d .before .before .u32-from-slice .ensures) (d .n .given .1)) in
-    rw (le-leb _ _ (b .before .before .if1 .left), e .1, lt-ltb _ _ (b .before .if2 .left), eq-eqb _ _ (b .if3 .left), ne-eqb _ _ (c .if4 .left))
+    rw (
+      le-leb _ _ (b .before .before .if1 .left),
+      e .1,
+      lt-ltb _ _ (b .before .if2 .left),
+      eq-eqb _ _ (b .if3 .left),
+      ne-eqb _ _ (c .if4 .left),
+    )
 
 pub admit-spec : {M : Type 1} → statement M
 admit-spec =

@@ -9,7 +9,8 @@ use Rattle.raw.proofs.binary_len.Statement.{statement}
 use Rattle.raw.proofs.binary_len.Tie as tie
 
 add-fixed-len : tie.Need-add-fixed-len
-add-fixed-len c = omega (arith, length-field-is _ _ _ _ (answered saidLength (c .before .before .before .length-field .ensures) (c .before .n .given .1)))
+add-fixed-len c =
+    omega (arith, length-field-is _ _ _ _ (answered saidLength (c .before .before .before .length-field .ensures) (c .before .n .given .1)))
 
 returns : tie.Need-returns
 unfolding binarySize
@@ -17,7 +18,9 @@ returns c = rw (answered saidLength (c .before .before .before .length-field .en
 
 returns-2 : tie.Need-returns-2
 unfolding binarySize
-returns-2 c = rw (answered saidLength (c .before .before .before .before .length-field .ensures) (c .before .before .n .given .1)) (c .fixed-len .ensures)
+returns-2 c =
+    rw (answered saidLength (c .before .before .before .before .length-field .ensures) (c .before .before .n .given .1))
+    (c .fixed-len .ensures)
 
 pub binary-len-spec : {M : Type 1} → statement M
 binary-len-spec =

@@ -9,7 +9,8 @@ use Rattle.raw.proofs.document_len.Statement.{statement}
 use Rattle.raw.proofs.document_len.Tie as tie
 
 zero-ended-len-requires : tie.Need-zero-ended-len-requires
-zero-ended-len-requires c κs = omega (arith, length-field-is _ _ _ _ (answered saidLength (c .before .before .before .length-field .ensures) (c .before .n .given .1)))
+zero-ended-len-requires c κs =
+    omega (arith, length-field-is _ _ _ _ (answered saidLength (c .before .before .before .length-field .ensures) (c .before .n .given .1)))
 
 returns : tie.Need-returns
 unfolding documentSize
@@ -17,7 +18,9 @@ returns c = rw (answered saidLength (c .before .before .before .length-field .en
 
 returns-2 : tie.Need-returns-2
 unfolding documentSize
-returns-2 c = rw (answered saidLength (c .before .before .before .before .length-field .ensures) (c .before .before .n .given .1)) (c .zero-ended-len .ensures)
+returns-2 c =
+    rw (answered saidLength (c .before .before .before .before .length-field .ensures) (c .before .before .n .given .1))
+    (c .zero-ended-len .ensures)
 
 pub document-len-spec : {M : Type 1} → statement M
 document-len-spec =

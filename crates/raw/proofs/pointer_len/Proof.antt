@@ -17,7 +17,8 @@ returns c = rw (answered saidLength (c .before .before .before .read-len .ensure
 
 returns-2 : tie.Need-returns-2
 unfolding pointerSize
-returns-2 c = rw (answered saidLength (c .before .before .before .before .read-len .ensures) (c .before .before .n .given .1)) (c .fixed-len .ensures)
+returns-2 c =
+    rw (answered saidLength (c .before .before .before .before .read-len .ensures) (c .before .before .n .given .1)) (c .fixed-len .ensures)
 
 pub pointer-len-spec : {M : Type 1} → statement M
 pointer-len-spec =

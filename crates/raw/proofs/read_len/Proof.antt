@@ -9,7 +9,8 @@ use Rattle.raw.proofs.read_len.Statement.{statement}
 use Rattle.raw.proofs.read_len.Tie as tie
 
 add-zero-ended-len : tie.Need-add-zero-ended-len
-add-zero-ended-len c = omega (arith, length-field-is _ _ _ _ (answered saidLength (c .before .before .before .length-field .ensures) (c .before .n .given .1)))
+add-zero-ended-len c =
+    omega (arith, length-field-is _ _ _ _ (answered saidLength (c .before .before .before .length-field .ensures) (c .before .n .given .1)))
 
 returns : tie.Need-returns
 unfolding stringSize
@@ -17,7 +18,9 @@ returns c = rw (answered saidLength (c .before .before .before .length-field .en
 
 returns-2 : tie.Need-returns-2
 unfolding stringSize
-returns-2 c = rw (answered saidLength (c .before .before .before .before .length-field .ensures) (c .before .before .n .given .1)) (c .zero-ended-len .ensures)
+returns-2 c =
+    rw (answered saidLength (c .before .before .before .before .length-field .ensures) (c .before .before .n .given .1))
+    (c .zero-ended-len .ensures)
 
 pub read-len-spec : {M : Type 1} → statement M
 read-len-spec =

@@ -10,17 +10,20 @@ use Rattle.raw.proofs.regex_len.Tie as tie
 
 add-t8 : tie.Need-add-t8
 add-t8 c =
-    let f = pattern-options-fit _ _ (pattern-options-under _ _ _ (answered saidPatternOptions (c .before .before .before .pattern-options .ensures) (c .before .pattern .given .1))) in
+    let f = pattern-options-fit _ _ (pattern-options-under _ _ _
+    (answered saidPatternOptions (c .before .before .before .pattern-options .ensures) (c .before .pattern .given .1))) in
     omega arith
 
 add-t9 : tie.Need-add-t9
 add-t9 c =
-    let f = pattern-options-fit _ _ (pattern-options-under _ _ _ (answered saidPatternOptions (c .before .before .before .pattern-options .ensures) (c .before .pattern .given .1))) in
+    let f = pattern-options-fit _ _ (pattern-options-under _ _ _
+    (answered saidPatternOptions (c .before .before .before .pattern-options .ensures) (c .before .pattern .given .1))) in
     omega arith
 
 add-t10 : tie.Need-add-t10
 add-t10 c =
-    let f = pattern-options-fit _ _ (pattern-options-under _ _ _ (answered saidPatternOptions (c .before .before .before .pattern-options .ensures) (c .before .pattern .given .1))) in
+    let f = pattern-options-fit _ _ (pattern-options-under _ _ _
+    (answered saidPatternOptions (c .before .before .before .pattern-options .ensures) (c .before .pattern .given .1))) in
     omega arith
 
 returns : tie.Need-returns

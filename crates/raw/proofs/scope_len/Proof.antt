@@ -12,7 +12,9 @@ returns c = rw (answered saidLength (c .before .before .before .length-field .en
 
 returns-2 : tie.Need-returns-2
 unfolding scopeSize
-returns-2 c = rw (answered saidLength (c .before .before .before .before .length-field .ensures) (c .before .before .n .given .1)) (c .fixed-len .ensures)
+returns-2 c =
+    rw (answered saidLength (c .before .before .before .before .length-field .ensures) (c .before .before .n .given .1))
+    (c .fixed-len .ensures)
 
 pub scope-len-spec : {M : Type 1} → statement M
 scope-len-spec =

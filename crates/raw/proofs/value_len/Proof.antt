@@ -19,27 +19,39 @@ returns-2 c =
 
 returns-3 : tie.Need-returns-3
 unfolding valueSizeUnder framedUnder
-returns-3 c = c .read-len .ensures ∙ sym (then-from _ _ (answered said (c .before .before .before .kind-of .ensures) (c .before .enum-told2 .given .1)))
+returns-3 c =
+    c .read-len .ensures
+    ∙ sym (then-from _ _ (answered said (c .before .before .before .kind-of .ensures) (c .before .enum-told2 .given .1)))
 
 returns-4 : tie.Need-returns-4
 unfolding valueSizeUnder framedUnder
-returns-4 c = c .pointer-len .ensures ∙ sym (then-from _ _ (answered said (c .before .before .before .kind-of .ensures) (c .before .enum-told3 .given .1)))
+returns-4 c =
+    c .pointer-len .ensures
+    ∙ sym (then-from _ _ (answered said (c .before .before .before .kind-of .ensures) (c .before .enum-told3 .given .1)))
 
 returns-5 : tie.Need-returns-5
 unfolding valueSizeUnder framedUnder
-returns-5 c = c .document-len .ensures ∙ sym (then-from _ _ (answered said (c .before .before .before .kind-of .ensures) (c .before .enum-told4 .given .1)))
+returns-5 c =
+    c .document-len .ensures
+    ∙ sym (then-from _ _ (answered said (c .before .before .before .kind-of .ensures) (c .before .enum-told4 .given .1)))
 
 returns-6 : tie.Need-returns-6
 unfolding valueSizeUnder framedUnder
-returns-6 c = c .binary-len .ensures ∙ sym (then-from _ _ (answered said (c .before .before .before .kind-of .ensures) (c .before .enum-told5 .given .1)))
+returns-6 c =
+    c .binary-len .ensures
+    ∙ sym (then-from _ _ (answered said (c .before .before .before .kind-of .ensures) (c .before .enum-told5 .given .1)))
 
 returns-7 : tie.Need-returns-7
 unfolding valueSizeUnder framedUnder
-returns-7 c = c .regex-len .ensures ∙ sym (then-from _ _ (answered said (c .before .before .before .kind-of .ensures) (c .before .enum-told6 .given .1)))
+returns-7 c =
+    c .regex-len .ensures
+    ∙ sym (then-from _ _ (answered said (c .before .before .before .kind-of .ensures) (c .before .enum-told6 .given .1)))
 
 returns-8 : tie.Need-returns-8
 unfolding valueSizeUnder framedUnder
-returns-8 c = c .scope-len .ensures ∙ sym (then-from _ _ (answered said (c .before .before .before .kind-of .ensures) (c .before .enum-told7 .given .1)))
+returns-8 c =
+    c .scope-len .ensures
+    ∙ sym (then-from _ _ (answered said (c .before .before .before .kind-of .ensures) (c .before .enum-told7 .given .1)))
 
 pub value-len-spec : {M : Type 1} → statement M
 value-len-spec =

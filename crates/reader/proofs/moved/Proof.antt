@@ -56,12 +56,14 @@ module _ {M : Type 1} (𝓤 : URA M) (H : Heap 𝓤) (A : Atoms 𝓤) (W : Given
       qed W (token κ q ∷ ‵ (owns (Held (κ, tt) ∷ K.the-row ∷ []) (d, (c, tt)) at) ∷ []) ∵
       suffices ! _ (ends-at 𝓤 H A moved.ended stayed (moved.clauses 𝓤 H A mem run) W
       (((κ, tt), (q, tt), tt, (d, (c, tt)), at), tt) (T′.lowered d′) d′ (tt, (tt, tt)) (tt, (tt, tt))) $ says ! refl $
-      frame ! $ fsplit ! $ use1 W (‵ (Own κ d) ⊛ ‵ (Lent κ (d .src))) (apart 𝓤 H A W κ d) $ split ! $ move ! (0 ∷ 2 ∷ []) $ fjoin ! $ frame ! $
+      frame ! $ fsplit ! $ use1 W (‵ (Own κ d) ⊛ ‵ (Lent κ (d .src))) (apart 𝓤 H A W κ d) $ split ! $ move ! (0 ∷ 2 ∷ []) $ fjoin !
+      $ frame ! $
       by ! (made 𝓤 H A W κ d′ fits)
 
   module _ (C : Calls 𝓤 H) (Λ : Loops 𝓤 H) where
     walk : Holds (hasTy (T′.mir (named 0)) (T′.lowered d)) × WT (T′.lowered d) → Holds (hasTy K′.mir (K′.lowered c)) × WT (K′.lowered c)
-        → ent 𝓤 (onEntry 𝓤 H A moved.signature (κ, tt) (q, tt) (d, (c, tt)) at) (WpFn 𝓤 H C Λ code.function (T′.lowered d ∷ K′.lowered c ∷ []) Post)
+        → ent 𝓤 (onEntry 𝓤 H A moved.signature (κ, tt) (q, tt) (d, (c, tt)) at)
+        (WpFn 𝓤 H C Λ code.function (T′.lowered d ∷ K′.lowered c ∷ []) Post)
     walk wt wc =
         qed W (raw (onEntry 𝓤 H A moved.signature (κ, tt) (q, tt) (d, (c, tt)) at) ∷ []) ∵
         enter ! C Λ code.function (T′.lowered d ∷ K′.lowered c ∷ []) _ $
@@ -77,7 +79,8 @@ module _ {M : Type 1} (𝓤 : URA M) (H : Heap 𝓤) (A : Atoms 𝓤) (W : Given
         move ! (6 ∷ 7 ∷ []) $ free1 ! $ move ! (4 ∷ 5 ∷ []) $ free1 ! $ move ! (2 ∷ 3 ∷ []) $ free1 ! $ free1 ! $ free0 ! $
         by ! (exits (wc .1 .0 .fits))))))
 
-moved-meets : {M : Type 1} (𝓤 : URA M) (H : Heap 𝓤) (A : Atoms 𝓤) → Given 𝓤 H A → (mem : Memory → SProp 𝓤) (run : Routine → Fun 𝓤) (𝓣 : Tables 𝓤 H)
+moved-meets : {M : Type 1} (𝓤 : URA M) (H : Heap 𝓤) (A : Atoms 𝓤) → Given 𝓤 H A
+    → (mem : Memory → SProp 𝓤) (run : Routine → Fun 𝓤) (𝓣 : Tables 𝓤 H)
     → Meets 𝓤 H A moved.signature (WpFn 𝓤 H (𝓣 .C) (𝓣 .Λ) code.function) (moved.spec 𝓤 H A mem run)
 moved-meets 𝓤 H A W mem run 𝓣 =
     walk-meets 𝓤 H A moved.ended stayed W (

@@ -69,7 +69,8 @@ module _ {M : Type 1} (𝓤 : URA M) (H : Heap 𝓤) (A : Atoms 𝓤) (W : Given
         returns ! (look ! 2 refl) $ forget ! 0 refl $ forget ! 2 refl $ move ! (2 ∷ 3 ∷ []) $ free1 ! $ free1 ! $ free0 ! $
         by ! (exits (wt .1 .1 .0 .fits))))
 
-offset-meets : {M : Type 1} (𝓤 : URA M) (H : Heap 𝓤) (A : Atoms 𝓤) → Given 𝓤 H A → (mem : Memory → SProp 𝓤) (run : Routine → Fun 𝓤) (𝓣 : Tables 𝓤 H)
+offset-meets : {M : Type 1} (𝓤 : URA M) (H : Heap 𝓤) (A : Atoms 𝓤) → Given 𝓤 H A
+    → (mem : Memory → SProp 𝓤) (run : Routine → Fun 𝓤) (𝓣 : Tables 𝓤 H)
     → Meets 𝓤 H A offset.signature (WpFn 𝓤 H (𝓣 .C) (𝓣 .Λ) code.function) (offset.spec 𝓤 H A mem run)
 offset-meets 𝓤 H A W mem run 𝓣 =
     walk-meets 𝓤 H A offset.ended stayed W (goes-none 𝓤 H A W 1 Held yes (λ κs x f. refl), tt) (offset.clauses 𝓤 H A mem run)

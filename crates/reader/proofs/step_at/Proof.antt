@@ -13,7 +13,8 @@ use prog.Wp.{Heap, Calls, Loops, WpFn, Tables}
 use ghost.Atoms.{Atoms, sem}
 use contract.Monad.{Fun}
 use contract.Running.{givenOf, tables, tablesOf}
-use types.Kit.{Given, ‵, raw, _⊛_, ⋆, _$_, _∵_, !, qed, by, move, use1, use2, split, pick, learn, fsplit, fjoin, suffices, frame, await, done}
+use types.Kit.{Given, ‵, raw, _⊛_, ⋆, _$_, _∵_, !, qed, by, move, use1, use2, split, pick, learn, fsplit, fjoin, suffices, frame, await}
+use types.Kit.{done}
 use types.Run.{look, init, forget, stop, from, load, and-then, no-more, land, returns}
 use types.Run.{enter, alloc1, alloc0, params1, pass1, pass0, free1, free0}
 use sound.WpLaws.{FmC, fmOf, WpFn-mono}
@@ -98,7 +99,8 @@ module _ {M : Type 1} (𝓤 : URA M) (H : Heap 𝓤) (A : Atoms 𝓤) (W : Given
   goes-new : ent 𝓤 (onEntry 𝓤 H A step-at.signature (κ, tt) (q, tt) (s, (c, tt)) at) (sep 𝓤 (New 𝓤 H A mem run .pre to-new) (sem 𝓤 H A Own))
   goes-new =
       qed W (token κ q ∷ ‵ Own ∷ []) ∵
-      move ! (1 ∷ []) $ fsplit ! $ use1 W (‵ (Lent κ s) ⊛ ‵ (Lent κ s)) (shr-slice-copy 𝓤 H A W (named 0) κ u8 .twice s (view s ∷ [])) $ split ! $
+      move ! (1 ∷ []) $ fsplit ! $ use1 W (‵ (Lent κ s) ⊛ ‵ (Lent κ s)) (shr-slice-copy 𝓤 H A W (named 0) κ u8 .twice s (view s ∷ []))
+      $ split ! $
       move ! (0 ∷ 2 ∷ []) $ fjoin ! $ nothing ! $ move ! (2 ∷ 0 ∷ []) $ fjoin ! $ move ! (2 ∷ 0 ∷ []) $
       use2 W (raw (New 𝓤 H A mem run .pre to-new)) (asked 𝓤 _) $ frame ! $ done !
 
@@ -110,18 +112,22 @@ module _ {M : Type 1} (𝓤 : URA M) (H : Heap 𝓤) (A : Atoms 𝓤) (W : Given
       → ent 𝓤 (⋆ 𝓤 H A (‵ (Held (κ, tt) .own r (u ∷ [])) ∷ token κ q ∷ [])) (Moved 𝓤 H A mem run .pre (to-moved r u))
   goes-moved is r u =
       qed W (‵ (Held (κ, tt) .own r (u ∷ [])) ∷ token κ q ∷ []) ∵
-      nothing ! $ owned ! K.the-row (Is K.the-row) (LL.makes K.the-type K′.the-plain 𝓤 H A) c _ is $ fjoin ! $ move ! (1 ∷ 0 ∷ []) $ fjoin ! $
+      nothing ! $ owned ! K.the-row (Is K.the-row) (LL.makes K.the-type K′.the-plain 𝓤 H A) c _ is $ fjoin ! $ move ! (1 ∷ 0 ∷ []) $ fjoin !
+      $
       move ! (1 ∷ 0 ∷ []) $ by ! (asked 𝓤 _)
 
   -- the call of `next`
   abbrev to-next : Reader → Val → Next 𝓤 H A mem run .Ghost
   to-next r u = (((κ, tt), (q, tt), tt, (r, tt), (u ∷ [], tt)), tt)
 
-  goes-next : (r : Reader) (u : Val) → ent 𝓤 (⋆ 𝓤 H A (‵ (Held (κ, tt) .own r (u ∷ [])) ∷ token κ q ∷ [])) (Next 𝓤 H A mem run .pre (to-next r u))
-  goes-next r u = qed W (‵ (Held (κ, tt) .own r (u ∷ [])) ∷ token κ q ∷ []) ∵ nothing ! $ move ! (1 ∷ 0 ∷ []) $ fjoin ! $ move ! (1 ∷ 0 ∷ []) $
+  goes-next : (r : Reader) (u : Val)
+      → ent 𝓤 (⋆ 𝓤 H A (‵ (Held (κ, tt) .own r (u ∷ [])) ∷ token κ q ∷ [])) (Next 𝓤 H A mem run .pre (to-next r u))
+  goes-next r u =
+      qed W (‵ (Held (κ, tt) .own r (u ∷ [])) ∷ token κ q ∷ []) ∵ nothing ! $ move ! (1 ∷ 0 ∷ []) $ fjoin ! $ move ! (1 ∷ 0 ∷ []) $
       by ! (asked 𝓤 _)
 
-  exits : (t : Step) (u : Val) → Stepped t (movedTo (started s) c) → ent 𝓤 (⋆ 𝓤 H A (‵ (S.the-row .own t (u ∷ [])) ∷ token κ q ∷ ‵ Own ∷ [])) (Post u)
+  exits : (t : Step) (u : Val) → Stepped t (movedTo (started s) c)
+      → ent 𝓤 (⋆ 𝓤 H A (‵ (S.the-row .own t (u ∷ [])) ∷ token κ q ∷ ‵ Own ∷ [])) (Post u)
   exits t u e =
       qed W (‵ (S.the-row .own t (u ∷ [])) ∷ token κ q ∷ ‵ Own ∷ []) ∵
       suffices ! _ (ends-at 𝓤 H A step-at.ended stayed (step-at.clauses 𝓤 H A mem run) W
@@ -132,7 +138,8 @@ module _ {M : Type 1} (𝓤 : URA M) (H : Heap 𝓤) (A : Atoms 𝓤) (W : Given
       (known-new : Triple 𝓤 (C #reader·new) (New 𝓤 H A mem run)) (known-moved : Triple 𝓤 (C #reader·moved) (Moved 𝓤 H A mem run))
       (known-next : Triple 𝓤 (C #reader·next) (Next 𝓤 H A mem run)) where
     walk : Is (ShrSlice (named 0) κ u8) s (view s ∷ []) → Is K.the-row c (K′.lowered c ∷ [])
-        → ent 𝓤 (onEntry 𝓤 H A step-at.signature (κ, tt) (q, tt) (s, (c, tt)) at) (WpFn 𝓤 H C Λ code.function (view s ∷ K′.lowered c ∷ []) Post)
+        → ent 𝓤 (onEntry 𝓤 H A step-at.signature (κ, tt) (q, tt) (s, (c, tt)) at)
+        (WpFn 𝓤 H C Λ code.function (view s ∷ K′.lowered c ∷ []) Post)
     walk p pc =
         qed W (raw (onEntry 𝓤 H A step-at.signature (κ, tt) (q, tt) (s, (c, tt)) at) ∷ []) ∵
         enter ! C Λ code.function (view s ∷ K′.lowered c ∷ []) _ $
@@ -141,7 +148,8 @@ module _ {M : Type 1} (𝓤 : URA M) (H : Heap 𝓤) (A : Atoms 𝓤) (W : Given
         pass1 ! (init ! 4 refl (LL.lawful K.the-type K′.the-laws 𝓤 H A W .typed c _ pc .0)) $ pass0 ! $
         move ! (10 ∷ []) $ use1 W (raw (New 𝓤 H A mem run .pre to-new) ⊛ ‵ Own) goes-new $ split ! $
         calls-at ! fm (New 𝓤 H A mem run) known-new to-new (and-then ! (load ! (from ! (stop !)) (look ! 8 refl)) (no-more !)) (λ u.
-        use1 W (Back 𝓤 κ q (Held (κ, tt)) u (λ r. r ≡ started s)) (back 𝓤 H A W new.ended (new.clauses 𝓤 H A mem run) to-new u _ (λ r ws. id⊢ 𝓤 _)) $
+        use1 W (Back 𝓤 κ q (Held (κ, tt)) u (λ r. r ≡ started s))
+        (back 𝓤 H A W new.ended (new.clauses 𝓤 H A mem run) to-new u _ (λ r ws. id⊢ 𝓤 _)) $
         await ! tt $ pick ! (λ r. learn ! (λ e. split ! $
         -- [the reader; the token; the parameters; room for _4; …; room for _3; …; _2; …; _1; …; room for _0; …]
         land ! (from ! (stop !)) (init ! 3 refl (LL.lawful (T.the-type αᵉ) (T′.the-laws αᵉ) 𝓤 H A W .typed r _ (e .1) .0)) $
@@ -153,7 +161,8 @@ module _ {M : Type 1} (𝓤 : URA M) (H : Heap 𝓤) (A : Atoms 𝓤) (W : Given
         await ! tt $ pick ! (λ r′. learn ! (λ e′. split ! $
         land ! (from ! (stop !)) (init ! 5 refl (LL.lawful (T.the-type αᵉ) (T′.the-laws αᵉ) 𝓤 H A W .typed r′ _ (e′ .1) .0)) $
         use2 W (raw (Next 𝓤 H A mem run .pre (to-next r′ u′))) (goes-next r′ u′) $
-        calls-at ! fm (Next 𝓤 H A mem run) known-next (to-next r′ u′) (and-then ! (load ! (from ! (stop !)) (look ! 4 refl)) (no-more !)) (λ v.
+        calls-at ! fm (Next 𝓤 H A mem run) known-next (to-next r′ u′) (and-then ! (load ! (from ! (stop !)) (look ! 4 refl)) (no-more !))
+        (λ v.
         use1 W (Back 𝓤 κ q S.the-row v (λ t. Stepped t r′))
         (back 𝓤 H A W next.ended (next.clauses 𝓤 H A mem run) (to-next r′ u′) v _ (λ t ws. id⊢ 𝓤 _)) $
         await ! tt $ pick ! (λ t. learn ! (λ e″. split ! $
@@ -165,7 +174,8 @@ module _ {M : Type 1} (𝓤 : URA M) (H : Heap 𝓤) (A : Atoms 𝓤) (W : Given
         by ! (exits t v (subst (Stepped t) (e′ .0 ∙ ap (λ (x : Reader). movedTo x c) (e .0)) (e″ .0)))))))))))))))))
 
 step-at-meets : {M : Type 1} (𝓤 : URA M) (H : Heap 𝓤) (A : Atoms 𝓤) (W : Given 𝓤 H A) (mem : Memory → SProp 𝓤)
-    (run : Routine → Fun 𝓤) (𝓣 : Tables 𝓤 H) → Triple 𝓤 (𝓣 .C #reader·new) (New 𝓤 H A mem run) → Triple 𝓤 (𝓣 .C #reader·moved) (Moved 𝓤 H A mem run)
+    (run : Routine → Fun 𝓤) (𝓣 : Tables 𝓤 H) → Triple 𝓤 (𝓣 .C #reader·new) (New 𝓤 H A mem run) → Triple 𝓤 (𝓣 .C #reader·moved)
+    (Moved 𝓤 H A mem run)
     → Triple 𝓤 (𝓣 .C #reader·next) (Next 𝓤 H A mem run)
     → Meets 𝓤 H A step-at.signature (WpFn 𝓤 H (𝓣 .C) (𝓣 .Λ) code.function) (step-at.spec 𝓤 H A mem run)
 step-at-meets 𝓤 H A W mem run 𝓣 known-new known-moved known-next =
@@ -175,7 +185,8 @@ step-at-meets 𝓤 H A W mem run 𝓣 known-new known-moved known-next =
     )
     (step-at.clauses 𝓤 H A mem run) (WpFn 𝓤 H (𝓣 .C) (𝓣 .Λ) code.function) (WpFn-mono 𝓤 H (W .laws) 𝓣 code.function)
     (walked 𝓤 H A step-at.ended stayed (step-at.clauses 𝓤 H A mem run) (WpFn 𝓤 H (𝓣 .C) (𝓣 .Λ) code.function)
-    (λ κs. (slice-vals, (LL.vals K.the-type K′.the-laws, tt))) (λ κs. (shr-slice-tells (named 0) (κs .0) u8, (LL.tells K.the-type K′.the-laws, tt)))
+    (λ κs. (slice-vals, (LL.vals K.the-type K′.the-laws, tt)))
+    (λ κs. (shr-slice-tells (named 0) (κs .0) u8, (LL.tells K.the-type K′.the-laws, tt)))
     (λ κs qs bounds a g are. via 𝓤 _ (fst∗ 𝓤 _ (emp 𝓤))
     (walk 𝓤 H A W mem run (κs .0) (qs .0) (a .0) (a .1 .0) (𝓣 .C) (𝓣 .Λ) (fmOf 𝓤 H (W .laws) 𝓣)
     known-new known-moved known-next (are .0) (are .1 .0))))
@@ -187,5 +198,7 @@ step-at-spec 𝓤 H 𝓜 𝓖 𝓡 =
     (tables 𝓤 H 𝓜 𝓡 code.env .C) (tables 𝓤 H 𝓜 𝓡 code.env .Λ) #reader·step-at code.function (code.unfolded 𝓤 H 𝓜 𝓡)
     (step-at-meets 𝓤 H (𝓖 .A) (givenOf 𝓤 H 𝓜 𝓖) (𝓜 .mem) (𝓡 .run) (tablesOf 𝓤 H 𝓜 (tables 𝓤 H 𝓜 𝓡 code.env))
     (cited 𝓤 H (New 𝓤 H (𝓖 .A) (𝓜 .mem) (𝓡 .run)) 𝓜 𝓡 code.env #reader·new new-def.routine code.calls-reader·new (new-thm.met 𝓤 H 𝓜 𝓖 𝓡))
-    (cited 𝓤 H (Moved 𝓤 H (𝓖 .A) (𝓜 .mem) (𝓡 .run)) 𝓜 𝓡 code.env #reader·moved moved-def.routine code.calls-reader·moved (moved-thm.met 𝓤 H 𝓜 𝓖 𝓡))
-    (cited 𝓤 H (Next 𝓤 H (𝓖 .A) (𝓜 .mem) (𝓡 .run)) 𝓜 𝓡 code.env #reader·next next-def.routine code.calls-reader·next (next-thm.met 𝓤 H 𝓜 𝓖 𝓡)))
+    (cited 𝓤 H (Moved 𝓤 H (𝓖 .A) (𝓜 .mem) (𝓡 .run)) 𝓜 𝓡 code.env #reader·moved moved-def.routine code.calls-reader·moved
+    (moved-thm.met 𝓤 H 𝓜 𝓖 𝓡))
+    (cited 𝓤 H (Next 𝓤 H (𝓖 .A) (𝓜 .mem) (𝓡 .run)) 𝓜 𝓡 code.env #reader·next next-def.routine code.calls-reader·next
+    (next-thm.met 𝓤 H 𝓜 𝓖 𝓡)))

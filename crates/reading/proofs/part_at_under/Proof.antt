@@ -24,7 +24,8 @@ returns-2 : tie.Need-returns-2
 unfolding partAtUnder
 returns-2 c =
     let b = c .before .before .before in
-    rw (answered said (b .before .before .read-with-under .ensures) (b .value .given .1)) (c .bytes-of .ensures ∙ ap (bytes _) (c .before .part-of .ensures))
+    rw (answered said (b .before .before .read-with-under .ensures) (b .value .given .1))
+    (c .bytes-of .ensures ∙ ap (bytes _) (c .before .part-of .ensures))
 
 pub part-at-under-spec : {M : Type 1} → statement M
 part-at-under-spec =

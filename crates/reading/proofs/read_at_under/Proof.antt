@@ -17,7 +17,9 @@ returns c = rw (answered saidLocated (c .before .before .before .locate .ensures
 
 returns-2 : tie.Need-returns-2
 unfolding readAtUnder
-returns-2 c = rw (answered saidLocated (c .before .before .before .before .locate .ensures) (c .before .before .element .given .1)) (c .value-of .ensures)
+returns-2 c =
+    rw (answered saidLocated (c .before .before .before .before .locate .ensures) (c .before .before .element .given .1))
+    (c .value-of .ensures)
 
 pub read-at-under-spec : {M : Type 1} → statement M
 read-at-under-spec = tie.close (tie.spec (λ c κs. tt) enum-known-number enum-known-element (λ c κs. tt) returns returns-2)

@@ -17,7 +17,9 @@ returns c = rw (answered saidLocated (c .before .before .before .locate .ensures
 
 returns-2 : tie.Need-returns-2
 unfolding readWithUnder
-returns-2 c = rw (answered saidLocated (c .before .before .before .before .locate .ensures) (c .before .before .element .given .1)) (c .value-with .ensures)
+returns-2 c =
+    rw (answered saidLocated (c .before .before .before .before .locate .ensures) (c .before .before .element .given .1))
+    (c .value-with .ensures)
 
 pub read-with-under-spec : {M : Type 1} → statement M
 read-with-under-spec = tie.close (tie.spec (λ c κs. tt) enum-known-number enum-known-element (λ c κs. tt) returns returns-2)

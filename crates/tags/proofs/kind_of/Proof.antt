@@ -18,27 +18,38 @@ returns-2 : tie.Need-returns-2
 unfolding rows
 returns-2 c =
     let d = c .before .before in
-    rw (c .wide .ensures) (of-fixed _ _ (d .before .before .fits .tag .fits) (d .before .row .ensures) (d .if1 .left) (c .before .if2 .taken))
+    rw (c .wide .ensures)
+    (of-fixed _ _ (d .before .before .fits .tag .fits) (d .before .row .ensures) (d .if1 .left) (c .before .if2 .taken))
 
 returns-3 : tie.Need-returns-3
 unfolding rows
-returns-3 c = let d = c .before .before in of-row _ _ (d .before .before .fits .tag .fits) (d .before .row .ensures) (d .if1 .left) 1 (c .match .keys1)
+returns-3 c =
+    let d = c .before .before in
+    of-row _ _ (d .before .before .fits .tag .fits) (d .before .row .ensures) (d .if1 .left) 1 (c .match .keys1)
 
 returns-4 : tie.Need-returns-4
 unfolding rows
-returns-4 c = let d = c .before .before in of-row _ _ (d .before .before .fits .tag .fits) (d .before .row .ensures) (d .if1 .left) 2 (c .match .keys2)
+returns-4 c =
+    let d = c .before .before in
+    of-row _ _ (d .before .before .fits .tag .fits) (d .before .row .ensures) (d .if1 .left) 2 (c .match .keys2)
 
 returns-5 : tie.Need-returns-5
 unfolding rows
-returns-5 c = let d = c .before .before in of-row _ _ (d .before .before .fits .tag .fits) (d .before .row .ensures) (d .if1 .left) 3 (c .match .keys3)
+returns-5 c =
+    let d = c .before .before in
+    of-row _ _ (d .before .before .fits .tag .fits) (d .before .row .ensures) (d .if1 .left) 3 (c .match .keys3)
 
 returns-6 : tie.Need-returns-6
 unfolding rows
-returns-6 c = let d = c .before .before in of-row _ _ (d .before .before .fits .tag .fits) (d .before .row .ensures) (d .if1 .left) 4 (c .match .keys4)
+returns-6 c =
+    let d = c .before .before in
+    of-row _ _ (d .before .before .fits .tag .fits) (d .before .row .ensures) (d .if1 .left) 4 (c .match .keys4)
 
 returns-7 : tie.Need-returns-7
 unfolding rows
-returns-7 c = let d = c .before .before in of-row _ _ (d .before .before .fits .tag .fits) (d .before .row .ensures) (d .if1 .left) 5 (c .match .keys5)
+returns-7 c =
+    let d = c .before .before in
+    of-row _ _ (d .before .before .fits .tag .fits) (d .before .row .ensures) (d .if1 .left) 5 (c .match .keys5)
 
 returns-8 : tie.Need-returns-8
 unfolding rows

@@ -19,7 +19,8 @@ use Rattle.laws.proofs.ReadLaws.{read-step, read-says}
 use Rattle.laws.proofs.StepLaws.{step-yields}
 use Rattle.laws.proofs.AdvanceLaws.{ended-at}
 use Rattle.laws.proofs.CheckLaws.{Visited, walk-eq}
-use Rattle.theorems.proofs.Check.Spots.{spotWalk, bytesLeft, Inner, plain, deep, Walked, ended, more, walked-says, opens-deeper, one-element}
+use Rattle.theorems.proofs.Check.Spots.{spotWalk, bytesLeft, Inner, plain, deep, Walked, ended, more, walked-says, opens-deeper}
+use Rattle.theorems.proofs.Check.Spots.{one-element}
 use Rattle.bson.specs.Check.{checkUnder}
 use Rattle.bson.specs.Cstring.{Limit}
 
@@ -145,7 +146,8 @@ module _ (limit : Limit) where
     from-end : ValuesFrom σ 0
     from-end = listed-none _ _ (omega (arith, ended-at limit (σ .document) (σ .offset) q)) (λ τ l z. end-last l z)
 
-  module _ (strict : Bool) (σ : Spot) (ih : (τ : Spot) (n : ℕ) → bytesLeft τ < bytesLeft σ → spotWalk limit strict τ ≡ gives n → ValuesFrom τ n) where
+  module _ (strict : Bool) (σ : Spot)
+      (ih : (τ : Spot) (n : ℕ) → bytesLeft τ < bytesLeft σ → spotWalk limit strict τ ≡ gives n → ValuesFrom τ n) where
     -- an accepted value and those inside it
     from-inner : (e : Element) → YieldsAt limit σ e → (o : Opening) → Visited strict (σ .document) (σ .level) (σ .position) e o
         → (n : ℕ) → Inner limit strict σ o n → Listed (λ τ. (τ ≡ σ) ⊎ Inside σ o τ) (placeOf σ) (σ .level .base + past e) n

@@ -14,7 +14,8 @@ use Rattle.bson.specs.Cstring.{Limit}
 use Rattle.bson.specs.Check.{checkUnder}
 
 module _ (limit : Limit) where
-  lookups-hold : (s : List ℕ) (n : ℕ) → checkUnder limit false s ≡ gives n → (d : List ℕ) (l : Level) → Comes limit s (start d l) → (key : List ℕ) → Lookups limit d key
+  lookups-hold : (s : List ℕ) (n : ℕ) → checkUnder limit false s ≡ gives n → (d : List ℕ) (l : Level) → Comes limit s (start d l)
+      → (key : List ℕ) → Lookups limit d key
   lookups-hold s n p d l c key =
       record {
         absent = passed.lookup-absent limit s n p d l c key;

@@ -1,5 +1,5 @@
--- The elements that iterating a document yields: an offset lies in one at most, so only one comes first with a key; where the iteration comes to
--- the terminator, none reaches past it (document 01, "Admission and one step", "Values"; demand 3).
+-- The elements that iterating a document yields: an offset lies in one at most, so only one comes first with a key; where the iteration
+-- comes to the terminator, none reaches past it (document 01, "Admission and one step", "Values"; demand 3).
 use Prim.Native.Nat.{ℕ, zero, suc, _≤_, _<_}
 use mathlib.Core.Path.{_≡_, sym, ap, subst, _∙_}
 use mathlib.Core.List.{List}
@@ -17,7 +17,8 @@ use Rattle.bson.specs.Cstring.{Limit}
 
 module _ (limit : Limit) where
   -- an iteration does not step inside an element that it yields
-  outside : (n : ℕ) (d : List ℕ) (a b : ℕ) (e : Element) → b < n → From limit d a → From limit d b → stepUnder limit d (cursor a false) ≡ gives (yield e)
+  outside : (n : ℕ) (d : List ℕ) (a b : ℕ) (e : Element) → b < n → From limit d a → From limit d b
+      → stepUnder limit d (cursor a false) ≡ gives (yield e)
       → a < b → b < past e → ⊥
   outside zero d a b e i p q y l h = omega arith
   outside (suc n) d a b e i p first y l h = let z = step-yields limit d (cursor a false) e y in omega arith
@@ -77,7 +78,8 @@ module _ (limit : Limit) where
       true≢false (sym (same-self key) ∙ ap (same key) (sym (ap (λ (g : Element). bytes d (g .key)) o ∙ k)) ∙ t)
 
   -- iteration that comes to the terminator does so from the next offset too, and so from each at which it steps
-  pub ends-next : (d : List ℕ) (offset : ℕ) (e : Element) → stepUnder limit d (cursor offset false) ≡ gives (yield e) → Ends limit d offset → Ends limit d (past e)
+  pub ends-next : (d : List ℕ) (offset : ℕ) (e : Element) → stepUnder limit d (cursor offset false) ≡ gives (yield e) → Ends limit d offset
+      → Ends limit d (past e)
   ends-next d offset e y (here q) = let z = step-yields limit d (cursor offset false) e y in absurd (omega arith)
   ends-next d offset e y (later f x r) = subst (λ (g : Element). Ends limit d (past g)) (one-element _ f e x y) r
 

@@ -1,5 +1,5 @@
--- The elements that steps yield lie one behind the other, their lengths add up, their bytes are the slice's from offset 4 on, and 4 is met exactly
--- where they reach past the terminator (document 02, request 13).
+-- The elements that steps yield lie one behind the other, their lengths add up, their bytes are the slice's from offset 4 on, and 4 is met
+-- exactly where they reach past the terminator (document 02, request 13).
 use Prim.Native.Nat.{ℕ, zero, suc, _+_, _≤_, _<_}
 use mathlib.Core.Path.{_≡_, refl, sym, subst, _∙_}
 use mathlib.Core.List.{List}
@@ -30,7 +30,15 @@ module _ (limit : Limit) (s : List ℕ) (c : Cursor) (e : Element) (q : stepUnde
   pub step-lies : Lies s (c .offset) e
   step-lies =
       let y = step-yields limit s c e q in
-      record { tag = y .placed; key = y .key-at; value = y .value-at; ends = omega (arith, y .value-at, y .key-at); least = omega arith; inside = y .inside }
+      record {
+        tag = y .placed;
+        key = y .key-at;
+        value = y .value-at;
+        ends = omega
+            (arith, y .value-at, y .key-at);
+        least = omega arith;
+        inside = y .inside;
+      }
 
   pub scope-size : e .tag ≡ 0x0F → e .value .size ≡ le32 (drop (e .value .offset) s)
   unfolding rowOf tags framedUnder
@@ -91,7 +99,8 @@ module _ (limit : Limit) (s : List ℕ) (m : ℕ) (a : admitted s ≡ gives m) w
 
       back : terminator s < offset → n ≡ 4
       back h =
-          let x : stepUnder limit s (cursor offset false) ≡ refuses 4 offset = step-outside limit s m a offset (rw (low, lt-leb offset (terminator s) h)) in
+          let x : stepUnder limit s (cursor offset false)
+          ≡ refuses 4 offset = step-outside limit s m a offset (rw (low, lt-leb offset (terminator s) h)) in
           cc
 
       there : n ≡ 4 → terminator s < offset

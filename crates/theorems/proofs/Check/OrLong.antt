@@ -18,7 +18,8 @@ use Rattle.laws.proofs.CstringLaws.{cstring-most, cstring-kept, cstring-first}
 use Rattle.laws.proofs.FramingLaws.{pattern-options-under, pattern-options-most, pattern-options-kept}
 use Rattle.laws.proofs.GrammarBack.{regex-alone}
 use Rattle.laws.proofs.StepLaws.{step-frames}
-use Rattle.laws.proofs.LimitLaws.{Turns, stays, turns, text-turns, step-turns, read-turns, read-with-turns, get-turns, get-with-turns, check-turns}
+use Rattle.laws.proofs.LimitLaws.{Turns, stays, turns, text-turns, step-turns, read-turns, read-with-turns, get-turns, get-with-turns}
+use Rattle.laws.proofs.LimitLaws.{check-turns}
 use Rattle.theorems.specs.OrLong.{OrLong, Limited}
 
 or-long : {A : Type 0} {x y : Answer A} → Turns Unit x y → OrLong x y

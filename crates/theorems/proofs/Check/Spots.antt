@@ -58,14 +58,16 @@ module _ (limit : Limit) where
   -- an accepted walk ends there, or goes on behind an accepted value
   pub data Walked (strict : Bool) (σ : Spot) : ℕ → Type 0 where
     ended : stepUnder limit (σ .document) (cursor (σ .offset) false) ≡ gives end → Walked strict σ 0
-    more : (e : Element) (n m : ℕ) → YieldsAt limit σ e → OpenedAt strict σ e n → spotWalk strict (behind σ e) ≡ gives m → Walked strict σ (n + m)
+    more : (e : Element) (n m : ℕ) → YieldsAt limit σ e → OpenedAt strict σ e n → spotWalk strict (behind σ e) ≡ gives m
+        → Walked strict σ (n + m)
 
   module _ (strict : Bool) (σ : Spot) where
     inner-says : (o : Opening) (n : ℕ) → inside (walkUnder limit strict) (σ .document) (σ .level) o ≡ gives n → Inner strict σ o (1 + n)
     inner-says closed n x = subst (λ (k : ℕ). Inner strict σ closed (1 + k)) (gives-injective x) plain
     inner-says (opens isArray levels p) n x = deep isArray levels p n (sym (walk-eq limit strict _ _) ∙ x)
 
-    pub opened-at-says : (e : Element) (n : ℕ) → opened strict (walkUnder limit strict) (σ .document) (σ .level) (σ .position) e ≡ gives n → OpenedAt strict σ e n
+    pub opened-at-says : (e : Element) (n : ℕ) → opened strict (walkUnder limit strict) (σ .document) (σ .level) (σ .position) e ≡ gives n
+        → OpenedAt strict σ e n
     unfolding opened
     opened-at-says e n x =
         let (o, q, x1) = then-gives (visit strict (σ .document) (σ .level) (σ .position) e) _ x in
@@ -73,20 +75,25 @@ module _ (limit : Limit) where
         subst (OpenedAt strict σ e) (gives-injective x2)
         (record { what = o; visited = visit-says strict (σ .document) (σ .level) (σ .position) e o q; inner = inner-says o k z })
 
-    inner-gives : (o : Opening) (n : ℕ) → Inner strict σ o n → (then (inside (walkUnder limit strict) (σ .document) (σ .level) o) λ k. gives (1 + k)) ≡ gives n
+    inner-gives : (o : Opening) (n : ℕ) → Inner strict σ o n
+        → (then (inside (walkUnder limit strict) (σ .document) (σ .level) o) λ k. gives (1 + k)) ≡ gives n
     inner-gives o n plain = refl
     inner-gives o n (deep isArray levels p k w) = then-from _ _ (walk-eq limit strict _ _ ∙ w)
 
-    pub opened-at-gives : (e : Element) (n : ℕ) → OpenedAt strict σ e n → opened strict (walkUnder limit strict) (σ .document) (σ .level) (σ .position) e ≡ gives n
+    pub opened-at-gives : (e : Element) (n : ℕ) → OpenedAt strict σ e n
+        → opened strict (walkUnder limit strict) (σ .document) (σ .level) (σ .position) e ≡ gives n
     unfolding opened
     opened-at-gives e n r =
-        then-from _ _ (visit-gives strict (σ .document) (σ .level) (σ .position) e (r .what) (r .visited)) ∙ inner-gives (r .what) n (r .inner)
+        then-from _ _ (visit-gives strict (σ .document) (σ .level) (σ .position) e (r .what) (r .visited))
+        ∙ inner-gives (r .what) n (r .inner)
 
-    walked-by : (n : ℕ) (x : Answer Step) → stepUnder limit (σ .document) (cursor (σ .offset) false) ≡ x → spotWalk strict σ ≡ gives n → Walked strict σ n
+    walked-by : (n : ℕ) (x : Answer Step) → stepUnder limit (σ .document) (cursor (σ .offset) false) ≡ x → spotWalk strict σ ≡ gives n
+        → Walked strict σ n
     walked-by n (gives end) y w = subst (Walked strict σ) (gives-injective (sym (walk-ends limit strict _ _ _ _ y) ∙ w)) (ended y)
     walked-by n (refuses k p) y w = never (sym (walk-refused limit strict _ _ _ _ k p y) ∙ w)
     walked-by n (gives (yield e)) y w =
-        let (k, q, x1) = then-gives (opened strict (walkUnder limit strict) (σ .document) (σ .level) (σ .position) e) _ (sym (walk-onward limit strict _ _ _ _ e y) ∙ w) in
+        let (k, q, x1) = then-gives (opened strict (walkUnder limit strict) (σ .document) (σ .level) (σ .position) e) _
+        (sym (walk-onward limit strict _ _ _ _ e y) ∙ w) in
         let (m, z, x2) = then-gives (spotWalk strict (behind σ e)) _ x1 in
         subst (Walked strict σ) (gives-injective x2) (more e k m y (opened-at-says e k q) z)
 
@@ -126,7 +133,8 @@ module _ (limit : Limit) where
         sum = refl;
       }
 
-  pub accepted-onward : (strict : Bool) (σ : Spot) (e : Element) (n : ℕ) → YieldsAt limit σ e → spotWalk strict σ ≡ gives n → Onward strict σ e n
+  pub accepted-onward : (strict : Bool) (σ : Spot) (e : Element) (n : ℕ) → YieldsAt limit σ e → spotWalk strict σ ≡ gives n
+      → Onward strict σ e n
   accepted-onward strict σ e n y w = onward-says strict σ e n y (walked-says strict σ n w)
 
   inner-accepted : (strict : Bool) (σ : Spot) (isArray : Bool) (levels : ℕ) (p : Part) (o : Opening) (n : ℕ) → o ≡ opens isArray levels p
@@ -139,7 +147,8 @@ module _ (limit : Limit) where
       (m, rw (← a, ← b, ← c) w)
 
   -- from an accepted slice every spot that one comes to is accepted
-  pub comes-accepted : (strict : Bool) (s : List ℕ) (n : ℕ) → checkUnder limit strict s ≡ gives n → (σ : Spot) → Comes limit s σ → (m : ℕ) × (spotWalk strict σ ≡ gives m)
+  pub comes-accepted : (strict : Bool) (s : List ℕ) (n : ℕ) → checkUnder limit strict s ≡ gives n → (σ : Spot) → Comes limit s σ
+      → (m : ℕ) × (spotWalk strict σ ≡ gives m)
   unfolding checkUnder
   comes-accepted strict s n h σ first = (n, sym (walk-eq limit strict s _) ∙ h)
   comes-accepted strict s n h τ (next {σ} e c y) =

@@ -29,7 +29,8 @@ use Rattle.bson.specs.Check.{checkUnder}
 
 module _ (limit : Limit) where
   -- an accepted walk steps
-  walked-answers : (σ : Spot) (m : ℕ) → Walked limit false σ m → (x : Step) × (stepUnder limit (σ .document) (cursor (σ .offset) false) ≡ gives x)
+  walked-answers : (σ : Spot) (m : ℕ) → Walked limit false σ m
+      → (x : Step) × (stepUnder limit (σ .document) (cursor (σ .offset) false) ≡ gives x)
   walked-answers σ m (ended y) = (end, y)
   walked-answers σ m (more e k j y o w) = (yield e, y)
 
@@ -52,7 +53,8 @@ module _ (limit : Limit) where
     step-open σ c = let (m, w) = comes-accepted limit false s n passed σ c in walked-answers σ m (walked-says limit false σ m w)
 
     -- No step from 4 or from where the last one ended is refused, whatever the mark.
-    pub step-answers : (σ : Spot) → Comes limit s σ → (mark : Bool) → (x : Step) × (stepUnder limit (σ .document) (cursor (σ .offset) mark) ≡ gives x)
+    pub step-answers : (σ : Spot) → Comes limit s σ → (mark : Bool)
+        → (x : Step) × (stepUnder limit (σ .document) (cursor (σ .offset) mark) ≡ gives x)
     step-answers σ c false = step-open σ c
     step-answers σ c true =
         let (x, y) = step-open σ c in
@@ -82,7 +84,8 @@ module _ (limit : Limit) where
 
     module _ (d : List ℕ) (l : Level) (comes : Comes limit s (start d l)) (key : List ℕ) where
       -- where iterating the document steps, one comes
-      comes-from : (offset : ℕ) → From limit d offset → (m : ℕ) × Comes limit s (record { document = d; level = l; position = m; offset = offset })
+      comes-from : (offset : ℕ) → From limit d offset
+          → (m : ℕ) × Comes limit s (record { document = d; level = l; position = m; offset = offset })
       comes-from offset first = (0, comes)
       comes-from offset (next e q y) = let (m, c) = comes-from _ q in (suc m, next e c y)
 
@@ -106,7 +109,8 @@ module _ (limit : Limit) where
           let f : First limit d key e = record { among = a; keyed = sym (same-eq _ _ t); none-before = λ g b k. w g b (omega arith) } in
           finds e v f (search-found limit d key offset e y t ∙ rw h))
           (λ t. let (x, z) = step-from (past e) (next e q y) in
-          rw (search-onward limit d key offset e y t) (search-says m (past e) (omega arith) (next e q y) (without-next limit d key e a w t) x z))
+          rw (search-onward limit d key offset e y t)
+          (search-says m (past e) (omega arith) (next e q y) (without-next limit d key e a w t) x z))
 
       lookup-says : Says d key (getUnder limit d key)
       unfolding getUnder
@@ -123,7 +127,8 @@ module _ (limit : Limit) where
           ]
 
       -- It gives an element exactly when that is the first with the key.
-      pub lookup-first : (e : Element) → ((v : Value) × (getUnder limit d key ≡ gives (record { element = e; value = v }))) ↔ First limit d key e
+      pub lookup-first : (e : Element)
+          → ((v : Value) × (getUnder limit d key ≡ gives (record { element = e; value = v }))) ↔ First limit d key e
       lookup-first e =
           elim lookup-says [
             | missing m q ↦ (λ h. never (sym q ∙ h .1), λ h. absurd (m e (h .among) (h .keyed)))
@@ -138,7 +143,8 @@ module _ (limit : Limit) where
       lookup-value f q =
           let a = lookup-first (f .element) .0 (f .value, q) .among in
           let σ : Spot = record { document = d; level = l; position = 0; offset = a .offset } in
-          ap (readAtUnder limit d) (among-yields limit d _ a .placed) ∙ read-step limit (σ .document) (σ .offset) _ (a .yields) ∙ get-finds limit d key f q .reads
+          ap (readAtUnder limit d) (among-yields limit d _ a .placed) ∙ read-step limit (σ .document) (σ .offset) _ (a .yields)
+          ∙ get-finds limit d key f q .reads
 
       -- It is refused as absent and by nothing else.
       pub lookup-refused : (k p : ℕ) → getUnder limit d key ≡ refuses k p → (k ≡ 16) × (p ≡ terminator d)
@@ -169,7 +175,8 @@ module _ (limit : Limit) where
           ]
 
       -- It says 17, at the first element's tag byte, exactly when that element's tag is another.
-      pub typed-other : (tag p : ℕ) → (getWithUnder limit d key tag ≡ refuses 17 p) ↔ ((e : Element) × First limit d key e × (p ≡ e .place) × (e .tag ≡ tag → ⊥))
+      pub typed-other : (tag p : ℕ)
+          → (getWithUnder limit d key tag ≡ refuses 17 p) ↔ ((e : Element) × First limit d key e × (p ≡ e .place) × (e .tag ≡ tag → ⊥))
       typed-other tag p =
           elim lookup-says [
             | missing m q ↦ (
@@ -190,4 +197,8 @@ module _ (limit : Limit) where
       -- It is refused by 16, at the terminator, and by 17 alone.
       pub typed-refused : (tag k p : ℕ) → getWithUnder limit d key tag ≡ refuses k p → ((k ≡ 16) × (p ≡ terminator d)) ⊎ (k ≡ 17)
       typed-refused tag k p h =
-          elim lookup-says [ missing m q ↦ let z = absent-with tag q in inl (cc, cc) | finds e v f q ↦ inr (found-other e v tag k p q .0 h .0) ]
+          elim lookup-says [
+            | missing m q ↦ let z =
+                absent-with tag q in inl (cc, cc)
+            | finds e v f q ↦ inr (found-other e v tag k p q .0 h .0)
+          ]

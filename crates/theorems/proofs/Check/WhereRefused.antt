@@ -54,13 +54,15 @@ visit-met : (strict : Bool) (s : List ℕ) (l : Level) (position : ℕ) (c : Cur
 unfolding visit
 visit-met strict s l position c e y =
     at-refused (l .base) (At e) (e .place)
-    (unless (keyPasses strict l position (bytes s (e .key))) 19 (then (valueOf s e) λ v. unless (leb (l .depth) 200) 13 (gives (opening v))))
+    (unless (keyPasses strict l position (bytes s (e .key))) 19
+    (then (valueOf s e) λ v. unless (leb (l .depth) 200) 13 (gives (opening v))))
     (λ n. (omega arith, omega arith))
 
 module _ (limit : Limit) (strict : Bool) where
   module _ (s : List ℕ) (w : Walk)
       (h : (v : List ℕ) (k : Level) (n : ℕ) → length v < length s → admitted v ≡ gives n → Refused (k .base) (Within v) (w v k)) where
-    inside-met : (l : Level) (position : ℕ) (c : Cursor) (e : Element) → FramedAt s c e → (o : Opening) → visit strict s l position e ≡ gives o
+    inside-met : (l : Level) (position : ℕ) (c : Cursor) (e : Element) → FramedAt s c e → (o : Opening)
+        → visit strict s l position e ≡ gives o
         → Refused (l .base) (At e) (inside w s l o)
     inside-met l position c e y closed q = given
     inside-met l position c e y (opens isArray levels p) q =
@@ -78,15 +80,18 @@ module _ (limit : Limit) (strict : Bool) where
         then-refused (l .base) (At e) (visit-met strict s l position c e y)
         (λ o q. then-refused (l .base) (At e) (inside-met l position c e y o q) (λ n r. given))
 
-    along-met : (l : Level) (position from : ℕ) (i : Iteration) → Accounted limit s from i → Refused (l .base) (Met i) (along strict w s l position i)
+    along-met : (l : Level) (position from : ℕ) (i : Iteration) → Accounted limit s from i
+        → Refused (l .base) (Met i) (along strict w s l position i)
     along-met l position from ended x = given
     along-met l position from (broken n p) x = there p refl (refl, refl)
     along-met l position from (more e rest) (q, k, r) =
         let base = l .base in
         let y = step-yields limit s (cursor from false) e q in
-        then-refused base (Met (more e rest)) (moved base (Met (more e rest)) base (At e) (λ n p t. (p, refl, inl t)) (opened-met l position (cursor from false) e y))
+        then-refused base (Met (more e rest))
+        (moved base (Met (more e rest)) base (At e) (λ n p t. (p, refl, inl t)) (opened-met l position (cursor from false) e y))
         (λ n u. then-refused base (Met (more e rest))
-        (moved base (Met (more e rest)) base (Met rest) (λ m p t. (p, refl, inr t)) (along-met l (suc position) (from + span e .size) rest r))
+        (moved base (Met (more e rest)) base (Met rest) (λ m p t. (p, refl, inr t))
+        (along-met l (suc position) (from + span e .size) rest r))
         (λ m v. given))
 
   -- all of that lies in the slice
@@ -94,9 +99,11 @@ module _ (limit : Limit) (strict : Bool) where
   met-within s from ended j x n q h = absurd h
   met-within s from (broken m p) j (y, t) n q (a, b) = omega arith
   met-within s from (more e rest) j (y, k, r) n q (inl (a, b)) = omega (arith, k .inside)
-  met-within s from (more e rest) j (y, k, r) n q (inr h) = met-within s (from + span e .size) rest (omega (arith, k .ends, k .inside)) r n q h
+  met-within s from (more e rest) j (y, k, r) n q (inr h) =
+      met-within s (from + span e .size) rest (omega (arith, k .ends, k .inside)) r n q h
 
-  walk-met : (f : ℕ) (s : List ℕ) (l : Level) (n : ℕ) → length s < f → admitted s ≡ gives n → Refused (l .base) (Within s) (walkFor limit f strict s l)
+  walk-met : (f : ℕ) (s : List ℕ) (l : Level) (n : ℕ) → length s < f → admitted s ≡ gives n
+      → Refused (l .base) (Within s) (walkFor limit f strict s l)
   unfolding walkFor
   walk-met zero s l n i a = absurd (omega arith)
   walk-met (suc f) s l n i a =
@@ -113,7 +120,8 @@ refused-as {n = n} {p = p} P (there {n = m} {p = r} q i h) e =
     let c : q ≡ p = omega arith in
     subst (P n) c (subst (λ (k : ℕ). P k q) a h)
 
-pub check-met : (limit : Limit) (s : List ℕ) (m : ℕ) → admitted s ≡ gives m → (strict : Bool) (n p : ℕ) → checkUnder limit strict s ≡ refuses n p
+pub check-met : (limit : Limit) (s : List ℕ) (m : ℕ) → admitted s ≡ gives m → (strict : Bool) (n p : ℕ)
+    → checkUnder limit strict s ≡ refuses n p
     → Met (iterateUnder limit s 4) n p
 unfolding checkUnder walkUnder walkFor
 check-met limit s m a strict n p q =

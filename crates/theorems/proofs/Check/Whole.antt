@@ -19,7 +19,8 @@ use Rattle.laws.proofs.Common.{split}
 use Rattle.laws.proofs.StepLaws.{step-admits, step-yields}
 use Rattle.laws.proofs.AdvanceLaws.{step-ends, ended-at}
 use Rattle.laws.proofs.CheckLaws.{walk-eq}
-use Rattle.theorems.proofs.Check.Spots.{spotWalk, bytesLeft, Inner, plain, deep, OpenedAt, Walked, ended, more, walked-says, walked-gives}
+use Rattle.theorems.proofs.Check.Spots.{spotWalk, bytesLeft, Inner, plain, deep, OpenedAt, Walked, ended, more, walked-says}
+use Rattle.theorems.proofs.Check.Spots.{walked-gives}
 use Rattle.theorems.proofs.Check.Spots.{opens-deeper, Onward, accepted-onward, comes-accepted}
 use Rattle.theorems.proofs.Check.FirstOfKey.{ends-next}
 use Rattle.bson.specs.Cstring.{Limit}
@@ -27,7 +28,8 @@ use Rattle.bson.specs.Cstring.{Limit}
 module _ (limit : Limit) where
   -- the key test of a check holds at every reachable value; the plain check's holds always
   abbrev KeysPass : Bool → List ℕ → Type 0
-  KeysPass strict s = (σ : Spot) (x : Reachable limit s σ) → keyPasses strict (σ .level) (σ .position) (bytes (σ .document) (x .element .key)) ≡ true
+  KeysPass strict s =
+      (σ : Spot) (x : Reachable limit s σ) → keyPasses strict (σ .level) (σ .position) (bytes (σ .document) (x .element .key)) ≡ true
 
   -- and the strict one's where the keys of arrays are good
   good-keys : (s : List ℕ) → KeysPass true s ↔ GoodKeys limit s
@@ -38,7 +40,8 @@ module _ (limit : Limit) where
   walked-admitted strict σ n (ended q) = step-admits limit _ _ end q
   walked-admitted strict σ n (more e k m y o w) = step-admits limit _ _ (yield e) y
 
-  walked-ends : (f : ℕ) (strict : Bool) (σ : Spot) (n : ℕ) → bytesLeft σ < f → Walked limit strict σ n → Ends limit (σ .document) (σ .offset)
+  walked-ends : (f : ℕ) (strict : Bool) (σ : Spot) (n : ℕ) → bytesLeft σ < f → Walked limit strict σ n
+      → Ends limit (σ .document) (σ .offset)
   walked-ends zero strict σ n l w = absurd (omega arith)
   walked-ends (suc f) strict σ n l (ended q) = here (ended-at limit (σ .document) (σ .offset) q)
   walked-ends (suc f) strict σ n l (more e k m y o w) =
@@ -57,8 +60,12 @@ module _ (limit : Limit) where
     passed-whole =
         record {
           admits = let (m, w) = accepted _ first in walked-admitted strict _ m (walked-says limit strict (start s outermost) m w);
-          ends = λ d l c. let (m, w) = accepted _ c in walked-ends (suc (length d)) strict _ m (omega arith) (walked-says limit strict (start d l) m w);
-          reads = λ σ x. let v = reached σ x .1 .opened .visited in (v .value, read-step limit (σ .document) (σ .offset) (x .element) (x .yields) ∙ v .reads);
+          ends =
+              λ d l c. let (m, w) = accepted _ c in
+              walked-ends (suc (length d)) strict _ m (omega arith) (walked-says limit strict (start d l) m w);
+          reads =
+              λ σ x. let v = reached σ x .1 .opened .visited in
+              (v .value, read-step limit (σ .document) (σ .offset) (x .element) (x .yields) ∙ v .reads);
           shallow = λ σ x. reached σ x .1 .opened .visited .shallow;
         }
 
@@ -66,7 +73,8 @@ module _ (limit : Limit) where
     passed-keys σ x = reached σ x .1 .opened .visited .key
 
   -- iteration that comes to the terminator is not refused
-  ends-unrefused : (d : List ℕ) (offset m n p : ℕ) → admitted d ≡ gives m → Ends limit d offset → stepUnder limit d (cursor offset false) ≡ refuses n p → ⊥
+  ends-unrefused : (d : List ℕ) (offset m n p : ℕ) → admitted d ≡ gives m → Ends limit d offset
+      → stepUnder limit d (cursor offset false) ≡ refuses n p → ⊥
   ends-unrefused d offset m n p a (here q) x = never (sym x ∙ step-ends limit d m a offset .1 q)
   ends-unrefused d offset m n p a (later e y r) x = never (sym x ∙ y)
 
@@ -98,7 +106,8 @@ module _ (limit : Limit) where
       inner-counts e v y x closed q = (1, λ strict k. plain)
       inner-counts e v y x (opens isArray levels p) q =
           let r = opens-deeper limit σ e v isArray levels p y x q in
-          let (n, w) = ih (within σ isArray levels p) (into v isArray levels p c (read-step limit (σ .document) (σ .offset) e y ∙ x) q) (omega arith) in
+          let (n, w) = ih (within σ isArray levels p) (into v isArray levels p c (read-step limit (σ .document) (σ .offset) e y ∙ x) q)
+          (omega arith) in
           (1 + n, λ strict k. deep isArray levels p n (w strict k))
 
       opened-counts : (e : Element) → YieldsAt limit σ e → Counts (λ strict n. OpenedAt limit strict σ e n)
@@ -136,7 +145,8 @@ module _ (limit : Limit) where
         (n, λ strict k. walk-eq limit strict s outermost ∙ w strict k)
 
   -- where one check passes, the other does so too if its keys pass, with the same count
-  other-passes : (one other : Bool) (s : List ℕ) (n : ℕ) → checkUnder limit one s ≡ gives n → KeysPass other s → checkUnder limit other s ≡ gives n
+  other-passes : (one other : Bool) (s : List ℕ) (n : ℕ) → checkUnder limit one s ≡ gives n → KeysPass other s
+      → checkUnder limit other s ≡ gives n
   other-passes one other s n x k =
       let (m, w) = whole-passes s (passed-whole one s n x) in
       w other k ∙ sym (w one (passed-keys one s n x)) ∙ x

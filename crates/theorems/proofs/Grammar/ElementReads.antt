@@ -1,5 +1,5 @@
--- The bytes of an element, wherever they lie in an admitted slice, are what the step there yields (BSON 1.1, `element`; document 01, "Admission
--- and one step").
+-- The bytes of an element, wherever they lie in an admitted slice, are what the step there yields (BSON 1.1, `element`; document
+-- 01, "Admission and one step").
 use Prim.Native.Nat.{ℕ, _+_, _-_, _≤_}
 use mathlib.Core.Path.{_≡_, refl, sym, ap, _∙_}
 use mathlib.Core.List.{List, [], _∷_, _++_, append-assoc}
@@ -67,7 +67,8 @@ module _ (s : List ℕ) (offset tag : ℕ) (key value back : List ℕ) (here : d
           let n : offset ≡ terminator s → ⊥ = λ e. omega arith in
           step-inside unlimited s (length s) admits offset (rw (le-leb _ _ low, le-leb _ _ l)) (ne-eqb _ _ n) ∙ rw element-here
 
-      pub yields-here : (v : Value) (h : Holding) → valueIn s tag (part (offset + 1 + length key + 1) (length value)) ≡ gives v → holding s v ≡ h
+      pub yields-here : (v : Value) (h : Holding) → valueIn s tag (part (offset + 1 + length key + 1) (length value)) ≡ gives v
+          → holding s v ≡ h
           → Yields s offset key tag h (elementHere offset tag key value)
       unfolding readAtUnder elementAtUnder valueOf
       yields-here v h e k =

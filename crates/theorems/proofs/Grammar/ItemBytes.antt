@@ -1,5 +1,5 @@
--- A value that is framed and read is the bytes of what it holds: an item, or a nest with its document (BSON 1.1, "Specification"; document 01,
--- "Values").
+-- A value that is framed and read is the bytes of what it holds: an item, or a nest with its document (BSON 1.1,
+-- "Specification"; document 01, "Values").
 use Prim.Native.Nat.{ℕ, _+_, _-_, _≤_}
 use mathlib.Core.Path.{_≡_, refl, sym, ap, subst, _∙_}
 use mathlib.Core.List.{List, [], _∷_, _++_}
@@ -25,14 +25,17 @@ use Rattle.laws.proofs.Common.{split, both-hold}
 use Rattle.laws.proofs.FramingLaws.{fits-is, in-front-is, pointer-is, binary-is, scope-is}
 use Rattle.laws.proofs.GrammarLaws.{pattern-options-of}
 use Rattle.laws.proofs.GrammarBack.{drop-are, bytes-are, le32-below, le64-below, bytes64-back, i32-back, i64-back, i32-ranged}
-use Rattle.laws.proofs.GrammarBack.{i64-ranged, timestamp-back, string-back, pointer-back, binary-back, old-binary-back, scope-back, regex-back}
+use Rattle.laws.proofs.GrammarBack.{i64-ranged, timestamp-back, string-back, pointer-back, binary-back, old-binary-back, scope-back}
+use Rattle.laws.proofs.GrammarBack.{regex-back}
 use Rattle.laws.proofs.StepLaws.{step-yields}
 use Rattle.laws.proofs.OpenLaws.{scope-says, le32-take}
 use Rattle.laws.proofs.TagLaws.{sizeFor, tagFor, sized-by, type-tag}
 use Rattle.theorems.proofs.Grammar.ItemReads.{bytes-here, regex-here}
 use Tags.{ElementType, Boolean, Int32, Double, Int64, DateTime, Timestamp, ObjectId, Decimal128, Null, Undefined, MinKey, MaxKey}
-use Tags.{String, JavaScriptCode, Symbol, DbPointer, EmbeddedDocument, Array, Binary, RegularExpression, JavaScriptCodeWithScope, fixed, typeOf}
-use Value.{boolean, int32, int64, dateTime, double, timestamp, string, code, symbol, null, undefined, minKey, maxKey, dbPointer, binary, regex}
+use Tags.{String, JavaScriptCode, Symbol, DbPointer, EmbeddedDocument, Array, Binary, RegularExpression, JavaScriptCodeWithScope, fixed}
+use Tags.{typeOf}
+use Value.{boolean, int32, int64, dateTime, double, timestamp, string, code, symbol, null, undefined, minKey, maxKey, dbPointer, binary}
+use Value.{regex}
 use Value.{Leaf, Value, leaf, asLeaf, bool, timestampOf, text, binaryValue, scopeValue, content, valueIn, valueOf}
 use Rattle.bson.specs.Cstring.{unlimited}
 
@@ -106,9 +109,11 @@ module _ (s : List ℕ) (b : AreBytes s) (p : Part) (inside : p .offset + p .siz
         let a = bytes-are s p b in
         let (x, q, h) = then-gives (inFront n number w) _ e in
         let i : number w ≡ x = in-front-is n number w x q .1 in
-        known (row (item-of w) .tag) (leaf (f (number w))) (ap (λ (y : A). gives (leaf (f y))) i ∙ h) (of-size (item-of w) n z g (fit w a) (back w a))
+        known (row (item-of w) .tag) (leaf (f (number w))) (ap (λ (y : A). gives (leaf (f y))) i ∙ h)
+        (of-size (item-of w) n z g (fit w a) (back w a))
 
-  of-bool : framed (fixed 1) (drop (p .offset) s) ≡ gives (p .size) → asLeaf boolean (bool (bytes s p)) ≡ gives v → CodesOf s 0x08 p (holding s v)
+  of-bool : framed (fixed 1) (drop (p .offset) s) ≡ gives (p .size) → asLeaf boolean (bool (bytes s p)) ≡ gives v
+      → CodesOf s 0x08 p (holding s v)
   unfolding row
   of-bool f e =
       let (x, q, h) = then-gives (bool (bytes s p)) _ e in

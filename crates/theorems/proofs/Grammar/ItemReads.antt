@@ -1,4 +1,5 @@
--- The bytes of a single value, wherever they lie in a slice, are framed and read as that value (BSON 1.1, "Specification"; document 01, "Values").
+-- The bytes of a single value, wherever they lie in a slice, are framed and read as that value (BSON 1.1,
+-- "Specification"; document 01, "Values").
 use Prim.Native.Nat.{ℕ, _+_, _-_, _≤_, _<_}
 use mathlib.Core.Path.{_≡_, refl, sym, ap, _∙_}
 use mathlib.Core.List.{List, [], _∷_, _++_, append-assoc, append-nil}
@@ -50,7 +51,8 @@ pub record Reads (s : List ℕ) (offset tag : ℕ) (value back : List ℕ) (h : 
   pub reads : valueIn s tag (part offset (length value)) ≡ gives found
   pub holds : holding s found ≡ h
 
-module _ (s : List ℕ) (offset : ℕ) (value back : List ℕ) (here : drop offset s ≡ value ++ back) (inside : offset + length value ≤ length s) where
+module _ (s : List ℕ) (offset : ℕ) (value back : List ℕ) (here : drop offset s ≡ value ++ back)
+    (inside : offset + length value ≤ length s) where
   abbrev herePart : Part
   herePart = part offset (length value)
 
@@ -58,7 +60,8 @@ module _ (s : List ℕ) (offset : ℕ) (value back : List ℕ) (here : drop offs
   here-bytes = bytes-here s offset value back here (length value) refl
 
   -- a type that has this tag frames and reads them
-  pub typed-value : (tag : ℕ) (h : Holding) (t : ElementType) → typeOf tag ≡ gives t → framed (sizeFor t) (value ++ back) ≡ gives (length value)
+  pub typed-value : (tag : ℕ) (h : Holding) (t : ElementType) → typeOf tag ≡ gives t
+      → framed (sizeFor t) (value ++ back) ≡ gives (length value)
       → (x : Value) → content s herePart t ≡ gives x → holding s x ≡ h → Reads s offset tag value back h
   typed-value tag h t tagged f x c i =
       record { sized = sized-by tag t _ tagged ∙ f; found = x; reads = value-by s tag t herePart tagged inside ∙ c; holds = i }
@@ -242,7 +245,8 @@ item-reads (int32 n) f g =
     of-size 0x10 Int32 4 _ (int32 n) refl refl (length-bytes32 _) λ s p e.
     (int32 n, number-of 4 i32 int32 n _ _ e (length-bytes32 _) (i32-bytes n [] f), refl)
 item-reads (timestamp i t) f g =
-    of-size 0x11 Timestamp 8 _ (timestamp i t) refl refl (length-pair i t) λ s p e. (timestamp i t, rw (e, timestamp-of i t (f .0) (f .1)), refl)
+    of-size 0x11 Timestamp 8 _ (timestamp i t) refl refl (length-pair i t) λ s p e.
+    (timestamp i t, rw (e, timestamp-of i t (f .0) (f .1)), refl)
 item-reads (int64 n) f g =
     of-size 0x12 Int64 8 _ (int64 n) refl refl (length-bytes64 _) λ s p e.
     (int64 n, number-of 8 i64 int64 n _ _ e (length-bytes64 _) (i64-bytes n [] f), refl)

@@ -1,4 +1,5 @@
--- The bytes of a document, an array or a code with scope, wherever they lie in a slice, are framed and read as that (BSON 1.1, `document` and
+-- The bytes of a document, an array or a code with scope, wherever they lie in a slice, are framed and read as
+-- that (BSON 1.1, `document` and
 -- `code_w_s`; document 01, "Values").
 use Prim.Native.Nat.{ℕ, _+_, _-_, _≤_, _<_}
 use mathlib.Core.Path.{_≡_, refl, sym, ap, _∙_}
@@ -45,7 +46,8 @@ module _ (t list : List ℕ) where
   unfolding scopeBytes
   length-scoped = simp (length-append, length-bytes32, length-document) (omega arith)
 
-  code-here : (s : List ℕ) (offset : ℕ) (back : List ℕ) → drop offset s ≡ scoped ++ back → drop (offset + 4) s ≡ stringBytes t ++ (documentOf list ++ back)
+  code-here : (s : List ℕ) (offset : ℕ) (back : List ℕ) → drop offset s ≡ scoped ++ back
+      → drop (offset + 4) s ≡ stringBytes t ++ (documentOf list ++ back)
   unfolding scopeBytes
   code-here s offset back here =
       let w = stringBytes t ++ documentOf list in
@@ -70,8 +72,10 @@ module _ (t list : List ℕ) where
       let alone : scoped ≡ scoped ++ [] = sym (append-nil scoped) in
       let l = length-scoped in
       let k = length-string t in
-      let text : bytes scoped (part 8 (codeSize - 5)) ≡ t = text-here scoped 4 t (documentOf list ++ []) (code-here scoped 0 [] alone) (codeSize - 5) (omega arith) in
-      let rest : drop (4 + codeSize) scoped ≡ documentOf list = scope-here scoped 0 (4 + codeSize) [] (omega arith) alone ∙ append-nil (documentOf list) in
+      let text : bytes scoped (part 8 (codeSize - 5))
+      ≡ t = text-here scoped 4 t (documentOf list ++ []) (code-here scoped 0 [] alone) (codeSize - 5) (omega arith) in
+      let rest : drop (4 + codeSize) scoped ≡ documentOf list = scope-here scoped 0 (4 + codeSize) [] (omega arith) alone
+      ∙ append-nil (documentOf list) in
       let a : 14 ≤ length scoped = omega arith in
       let b : 4 + codeSize < length scoped = omega arith in
       rw (
@@ -86,7 +90,8 @@ module _ (t list : List ℕ) where
       )
 
 -- a document or an array, handed back whole
-embedded-reads : (n : Embedded) (type : ElementType) (list s : List ℕ) (offset : ℕ) (back : List ℕ) → typeOf (nestTag (embedded n)) ≡ gives type
+embedded-reads : (n : Embedded) (type : ElementType) (list s : List ℕ) (offset : ℕ) (back : List ℕ)
+    → typeOf (nestTag (embedded n)) ≡ gives type
     → sizeFor type ≡ asDocument → ((p : Part) → (x : Value) × (content s p type ≡ gives x) × (holding s x ≡ nested (embedded n) p))
     → length list + 5 < 2147483648 → drop offset s ≡ documentOf list ++ back → offset + length (documentOf list) ≤ length s
     → ReadsNest s offset (embedded n) list back
@@ -98,7 +103,9 @@ embedded-reads n type list s offset back tagged z c small here inside =
     record {
       inner = p;
       whole = here-bytes s offset d back here inside;
-      reads = typed-value s offset d back here inside (nestTag (embedded n)) (nested (embedded n) p) type tagged (rw z (document-of list back small)) x r h;
+      reads =
+          typed-value s offset d back here inside (nestTag (embedded n)) (nested (embedded n) p) type tagged
+          (rw z (document-of list back small)) x r h;
     }
 
 scope-reads : (t list s : List ℕ) (offset : ℕ) (back : List ℕ) → utf8 t ≡ true → length (scopeBytes t (documentOf list)) < 2147483648
@@ -128,7 +135,8 @@ pub nest-reads : (n : Nest) (list : List ℕ) → nestGood n ≡ true → (s : L
     → offset + length (nestBytes n (documentOf list)) ≤ length s → ReadsNest s offset n list back
 unfolding content rowOf tags
 nest-reads (embedded document) list g s offset back small =
-    embedded-reads document EmbeddedDocument list s offset back refl refl (λ p. (value.document p, refl, refl)) (omega (arith, length-document list))
+    embedded-reads document EmbeddedDocument list s offset back refl refl (λ p. (value.document p, refl, refl))
+    (omega (arith, length-document list))
 nest-reads (embedded array) list g s offset back small =
     embedded-reads array Array list s offset back refl refl (λ p. (value.array p, refl, refl)) (omega (arith, length-document list))
 nest-reads (scope t) list g s offset back small = scope-reads t list s offset back g small

@@ -44,7 +44,8 @@ comes-are s are σ first = are
 comes-are s are τ (next {σ} e c y) = comes-are s are σ c
 comes-are s are τ (into {σ} v isArray levels p c x o) = bytes-are (σ .document) p (comes-are s are σ c)
 
-passed-throughout : (s : List ℕ) (n : ℕ) → AreBytes s → check false s ≡ gives n → (d : List ℕ) (l : Level) → Comes unlimited s (start d l) → OneTree d
+passed-throughout : (s : List ℕ) (n : ℕ) → AreBytes s → check false s ≡ gives n → (d : List ℕ) (l : Level) → Comes unlimited s (start d l)
+    → OneTree d
 passed-throughout s n are x d l c =
     let (m, w) = comes-accepted unlimited false s n x (start d l) c in
     let small = comes-are s are (start d l) c in

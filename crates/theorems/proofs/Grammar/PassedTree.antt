@@ -46,9 +46,18 @@ module _ (strict : Bool) (σ : Spot) (are : AreBytes (σ .document)) (e : Elemen
   coded h q =
       subst (CodesOf (σ .document) (e .tag) (e .value)) q (element-codes (σ .document) are (σ .offset) e (v .value) y (v .reads))
 
-  yielded : (h : Holding) (tag : ℕ) → holding (σ .document) (v .value) ≡ h → e .tag ≡ tag → Yields (σ .document) (σ .offset) keyed-by tag h e
+  yielded : (h : Holding) (tag : ℕ) → holding (σ .document) (v .value) ≡ h → e .tag ≡ tag
+      → Yields (σ .document) (σ .offset) keyed-by tag h e
   yielded h tag q t =
-      record { steps = y; keyed = refl; tagged = t; value = v .value; reads = read-step unlimited (σ .document) (σ .offset) e y ∙ v .reads; holds = q }
+      record {
+        steps = y;
+        keyed = refl;
+        tagged = t;
+        value = v .value;
+        reads = read-step unlimited (σ .document) (σ .offset) e y
+            ∙ v .reads;
+        holds = q;
+      }
 
   in-front : (h : Holding) → holding (σ .document) (v .value) ≡ h
       → ((n : Nest) (p : Part) (j : ℕ) → h ≡ nested n p → spotWalk unlimited strict (within σ (isArray n) (levels n) p) ≡ gives j
@@ -72,7 +81,8 @@ module _ (strict : Bool) (σ : Spot) (are : AreBytes (σ .document)) (e : Elemen
         counted = omega (arith, i .counted, rest .counted);
       }
 
-tree-walked : (f : ℕ) (strict : Bool) (σ : Spot) (n : ℕ) → AreBytes (σ .document) → bytesLeft σ < f → Walked unlimited strict σ n → Tree strict σ n
+tree-walked : (f : ℕ) (strict : Bool) (σ : Spot) (n : ℕ) → AreBytes (σ .document) → bytesLeft σ < f → Walked unlimited strict σ n
+    → Tree strict σ n
 tree-walked zero strict σ n are l w = absurd (omega arith)
 tree-walked (suc f) strict σ n are l (ended q) =
     record { tree = none; means = ends (ended-at unlimited (σ .document) (σ .offset) q) q; shallow = tt; asked = λ s. tt; counted = refl }
@@ -84,7 +94,8 @@ tree-walked (suc f) strict σ n are l (more e k m y o w) =
     let inner = subst (λ (x : Opening). Inner unlimited strict σ x k) (sym (v .is) ∙ opened) (o .inner) in
     in-front strict σ are e y (o .what) v m rest (holding (σ .document) (v .value)) refl
     (λ i p j q x. let r = opens-deeper unlimited σ e (v .value) (isArray i) (levels i) p y (v .reads) (opened ∙ ap openingOf q) in
-    tree-walked f strict _ j (bytes-are (σ .document) p are) (omega arith) (walked-says unlimited strict (within σ (isArray i) (levels i) p) j x))
+    tree-walked f strict _ j (bytes-are (σ .document) p are) (omega arith)
+    (walked-says unlimited strict (within σ (isArray i) (levels i) p) j x))
     k inner
 
 -- from any spot that is accepted

@@ -1,5 +1,5 @@
--- A document that means a tree is the bytes of this tree, which is a good one: the way back from TreeReads (BSON 1.1, "Specification"; document 01,
--- "Admission and one step" and "Values").
+-- A document that means a tree is the bytes of this tree, which is a good one: the way back from TreeReads (BSON 1.1, "Specification";
+-- document 01, "Admission and one step" and "Values").
 use Prim.Native.Nat.{ℕ, suc, _+_, _≤_}
 use mathlib.Core.Path.{_≡_, sym, ap, subst, _∙_}
 use mathlib.Core.List.{List, [], _∷_, _++_, append-assoc}
@@ -40,7 +40,8 @@ element-bytes s c e y =
     rw (start, y .key-at, ← drop-drop (k + 1) (o + 1) s) (cstring-splits (drop (o + 1) s) k (y .key-is)) in
     let value = part-front s (e .value) in
     tag ∙ ap (λ (l : List ℕ). e .tag ∷ l)
-    (key ∙ ap (λ (l : List ℕ). bytes s (e .key) ++ (0 ∷ l)) value ∙ sym (append-assoc (bytes s (e .key)) (0 ∷ bytes s (e .value)) (drop (past e) s)))
+    (key ∙ ap (λ (l : List ℕ). bytes s (e .key) ++ (0 ∷ l)) value
+    ∙ sym (append-assoc (bytes s (e .key)) (0 ∷ bytes s (e .value)) (drop (past e) s)))
 
 -- what is yielded has the bytes of what it holds
 pub yields-codes : {s : List ℕ} {offset : ℕ} {key : List ℕ} {tag : ℕ} {h : Holding} {e : Element} → AreBytes s → Yields s offset key tag h e
@@ -72,7 +73,8 @@ last-byte s offset e a =
     let l : length s ≤ suc (terminator s) = omega arith in
     rw (e, drop-cons s (terminator s) 0 (omega arith), k .2, drop-of-length-le s l)
 
-meant-from : (s : List ℕ) (offset : ℕ) (t : Elements) → AreBytes s → MeansFrom s offset t → InOrder t × (drop offset s ≡ listBytes t ++ (0 ∷ []))
+meant-from : (s : List ℕ) (offset : ℕ) (t : Elements) → AreBytes s → MeansFrom s offset t
+    → InOrder t × (drop offset s ≡ listBytes t ++ (0 ∷ []))
 unfolding listBytes
 meant-from s offset t a (ends q x) = (tt, last-byte s offset q (step-admits unlimited _ _ end x))
 meant-from s offset t a (yields {rest = rest} e y m) =

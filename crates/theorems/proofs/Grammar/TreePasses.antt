@@ -51,7 +51,8 @@ spot s l position offset = record { document = s; level = l; position = position
 yields-passes : (strict : Bool) (σ : Spot) {key : List ℕ} {tag : ℕ} {h : Holding} (e : Element) (n m : ℕ)
     → Yields (σ .document) (σ .offset) key tag h e → σ .level .depth ≤ 200
     → (strict ≡ true → σ .level .isArray ≡ true → goodArrayKey (σ .position) key ≡ true)
-    → Inner unlimited strict σ (openingOf h) n → spotWalk unlimited strict (behind σ e) ≡ gives m → spotWalk unlimited strict σ ≡ gives (n + m)
+    → Inner unlimited strict σ (openingOf h) n → spotWalk unlimited strict (behind σ e) ≡ gives m
+    → spotWalk unlimited strict σ ≡ gives (n + m)
 yields-passes strict σ {h = h} e n m y low key i w =
     let reads = sym (read-step unlimited (σ .document) (σ .offset) e (y .steps)) ∙ y .reads in
     let is = holding-opens (σ .document) (y .value) ∙ ap openingOf (y .holds) in
@@ -63,7 +64,8 @@ yields-passes strict σ {h = h} e n m y low key i w =
     w)
 
 -- at any level, from any element on
-from-passes : (strict : Bool) (s : List ℕ) (offset : ℕ) (t : Elements) → MeansFrom s offset t → (l : Level) (position : ℕ) → Shallow (l .depth) t
+from-passes : (strict : Bool) (s : List ℕ) (offset : ℕ) (t : Elements) → MeansFrom s offset t → (l : Level) (position : ℕ)
+    → Shallow (l .depth) t
     → KeysAsked strict (l .isArray) position t → walkFrom unlimited strict s l position offset ≡ gives (size t)
 from-passes strict s offset t (ends at e) l position h k = walk-ends unlimited strict s l position offset e
 from-passes strict s offset t (yields {rest = rest} e y m) l position h k =

@@ -40,7 +40,8 @@ means-from (leaf key v rest) s offset g a small low here =
     let m = length-append (listBytes rest) (0 ∷ []) in
     let r = item-reads v (g .1 .1 .0) (g .1 .0) s (offset + 1 + length key + 1) back (omega arith)
     (value-here s offset tag key value back start) (omega arith) in
-    let y = yields-here s offset tag key value back start (g .0) (r .sized) a low (omega arith) (r .found) (single v) (r .reads) (r .holds) in
+    let y = yields-here s offset tag key value back start (g .0) (r .sized) a low (omega arith) (r .found) (single v) (r .reads)
+    (r .holds) in
     yields (elementHere offset tag key value) y
     (means-from rest s _ (g .1 .1 .1) a small (omega arith) (next-here s offset tag key value back start))
 means-from (nest n key inner rest) s offset g a small low here =
@@ -56,7 +57,8 @@ means-from (nest n key inner rest) s offset g a small low here =
     let r = w .reads in
     let y = yields-here s offset tag key value back start (g .0) (r .sized) a low (omega arith) (r .found) _ (r .reads) (r .holds) in
     let short : length list + 5 < 2147483648 = omega (arith, length-document list, nest-longer n (documentOf list)) in
-    let i = means-from inner (documentOf list) 4 (g .1 .1 .0) (document-admitted list short) (omega (arith, length-document list)) (omega arith)
+    let i = means-from inner (documentOf list) 4 (g .1 .1 .0) (document-admitted list short) (omega (arith, length-document list))
+    (omega arith)
     (inner-here list) in
     opens (w .inner) (elementHere offset tag key value) y (subst (λ (d : List ℕ). MeansFrom d 4 inner) (sym (w .whole)) i)
     (means-from rest s _ (g .1 .1 .1) a small (omega arith) (next-here s offset tag key value back start))

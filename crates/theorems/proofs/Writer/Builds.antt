@@ -34,7 +34,8 @@ record Leads (s : Session) (calls : List Call) (t : Session) : Type 0 where
   accepted : Accepted calls s
   leaves : run calls s ≡ t
 
-leads-one : (c : Call) (s t : Session) (e : Desk) → answer c (s .left) ≡ gives e → session e (treeAfter c (s .tree)) ≡ t → Leads s (c ∷ []) t
+leads-one : (c : Call) (s t : Session) (e : Desk) → answer c (s .left) ≡ gives e → session e (treeAfter c (s .tree)) ≡ t
+    → Leads s (c ∷ []) t
 leads-one c s t e x i = record { accepted = ((e, x), tt); leaves = ap (sessionAfter c s) x ∙ i }
 
 leads-both : (calls more : List Call) (s t u : Session) → Leads s calls t → Leads t more u → Leads s (calls ++ more) u
@@ -88,7 +89,8 @@ reaches-both calls more s o p around across r q =
       kept = q .kept ∙ r .kept;
     }
 
-reaches-one : (c : Call) (s : Session) (e : Desk) (o : Open) (around : List Open) → length (s .left .state) ≡ 406 → answer c (s .left) ≡ gives e
+reaches-one : (c : Call) (s : Session) (e : Desk) (o : Open) (around : List Open) → length (s .left .state) ≡ 406
+    → answer c (s .left) ≡ gives e
     → treeAfter c (s .tree) ≡ building o around → Holds e (o ∷ around) → Reaches s (c ∷ []) o around
 reaches-one c s e o around w x i h =
     record { end = e; leads = leads-one c s _ e x (ap (session e) i); holds = h; kept = bytes-behind c (s .left) e w x .long }
@@ -123,27 +125,34 @@ made-key o key h = split (isArray (embedded (o .nest))) (λ t. rw t (sym (h t)))
 
 -- a tree's elements are taken behind those that are there
 abbrev Grows : Elements → Type 0
-Grows t = (d : Desk) (o : Open) (around : List Open) → Holds d (o ∷ around) → InOrder t → Unscoped t → Numbered (isArray (embedded (o .nest))) (count (o .inside)) t
+Grows t =
+    (d : Desk) (o : Open) (around : List Open) → Holds d (o ∷ around) → InOrder t → Unscoped t → Numbered (isArray (embedded (o .nest)))
+    (count (o .inside)) t
     → Shallow (length around) t → used (d .state) + length (listBytes t) + suc (length around) ≤ roomOf d
     → Reaches (session d (building o around)) (callsOf t) (with o t) around
 
-nest-given : (n : Embedded) (key : List ℕ) (inner : Elements) (d : Desk) (o : Open) (around : List Open) → Grows inner → Holds d (o ∷ around)
-    → keyFor o key ≡ key → length around ≤ 200 → validCstr key ≡ true → InOrder inner → Unscoped inner → Numbered (isArray (embedded n)) 0 inner → Shallow (length around + 1) inner
+nest-given : (n : Embedded) (key : List ℕ) (inner : Elements) (d : Desk) (o : Open) (around : List Open) → Grows inner
+    → Holds d (o ∷ around)
+    → keyFor o key ≡ key → length around ≤ 200 → validCstr key ≡ true → InOrder inner → Unscoped inner
+    → Numbered (isArray (embedded n)) 0 inner → Shallow (length around + 1) inner
     → used (d .state) + (7 + length key + length (listBytes inner)) + suc (length around) ≤ roomOf d
-    → Reaches (session d (building o around)) (openNest n key ∷ (callsOf inner ++ (close ∷ []))) (with o (nest (embedded n) key inner none)) around
+    → Reaches (session d (building o around)) (openNest n key ∷ (callsOf inner ++ (close ∷ [])))
+    (with o (nest (embedded n) key inner none)) around
 nest-given n key inner d o around grow h k deep valid good plain numbered shallow fits =
     let m = many h in
     let begun = shown-nested (openOf n key none) o around in
     let ended = shown-nested (openOf n key inner) o around in
     let r = nest-opened d o around h n key k deep valid (omega arith) in
     let (i, u) = reached r in
-    let q = grow (r .end) (openOf n key none) (o ∷ around) (r .holds) good plain numbered (rw add-one at shallow) (omega (arith, none-length)) in
+    let q = grow (r .end) (openOf n key none) (o ∷ around) (r .holds) good plain numbered (rw add-one at shallow)
+    (omega (arith, none-length)) in
     let (j, v) = reached q in
     let c = nest-closed (q .end) (openOf n key inner) o around (q .holds) deep (omega arith) in
     reaches-both (openNest n key ∷ []) (callsOf inner ++ (close ∷ [])) _ _ _ _ _ r (reaches-both (callsOf inner) (close ∷ []) _ _ _ _ _ q c)
 
 -- and the rest behind one element
-rest-given : (u t : Elements) (s : Session) (calls : List Call) (o : Open) (around : List Open) → Grows t → Reaches s calls (with o u) around
+rest-given : (u t : Elements) (s : Session) (calls : List Call) (o : Open) (around : List Open) → Grows t
+    → Reaches s calls (with o u) around
     → count u ≡ 1 → InOrder t → Unscoped t → Numbered (isArray (embedded (o .nest))) (suc (count (o .inside))) t → Shallow (length around) t
     → length (shown (o ∷ around)) + length (listBytes u) + length (listBytes t) + suc (length around) ≤ roomOf (s .left)
     → Reaches s (calls ++ callsOf t) (with o (behind u t)) around
@@ -211,7 +220,8 @@ tree-given t w buffer size =
     let (i, u) = reached r in
     let top = shown-top (openOf document [] none) in
     reaches-both (openTop ∷ []) (callsOf t) (sessionStart buffer) _ _ _ _ r
-    (grows t (r .end) (openOf document [] none) [] (r .holds) (w .good .ordered) (w .unscoped) (w .numbered) (w .shallow) (omega (arith, none-length)))
+    (grows t (r .end) (openOf document [] none) [] (r .holds) (w .good .ordered) (w .unscoped) (w .numbered) (w .shallow)
+    (omega (arith, none-length)))
 
 -- every writable tree is built, in a buffer of just its size
 pub writer-builds : WriterBuilds

@@ -11,21 +11,26 @@ use lib.Seq.{getD-set-same, getD-set-other}
 use Rattle.bson.specs.Answer.{gives}
 use Rattle.bson.specs.Decimal.{decimal}
 use Rattle.bson.specs.Output.{put}
-use Rattle.bson.specs.Grammar.{bytes32, Item, row, Embedded, document, array, embedded, nestTag, isArray, Elements, none, leaf, nest, elementBytes}
+use Rattle.bson.specs.Grammar.{bytes32, Item, row, Embedded, document, array, embedded, nestTag, isArray, Elements, none, leaf, nest}
+use Rattle.bson.specs.Grammar.{elementBytes}
 use Rattle.bson.specs.Grammar.{documentOf, listBytes, treeBytes, behind, count}
-use Rattle.bson.specs.Writer.{State, fresh, used, depth, startAt, start, markAt, mark, Kind, inArray, kindOf, markOf, Desk, desk, roomOf, innermost, popped}
+use Rattle.bson.specs.Writer.{State, fresh, used, depth, startAt, start, markAt, mark, Kind, inArray, kindOf, markOf, Desk, desk, roomOf}
+use Rattle.bson.specs.Writer.{innermost, popped}
 use Rattle.bson.specs.Writer.{keyIn, grown, pushed, close, openTop, append, openNest, answer}
 use Rattle.theorems.specs.ReadBack.{Open, openOf, with, keyFor}
 use Rattle.laws.proofs.AnswerLaws.{gives-injective}
 use Rattle.laws.proofs.GrammarLaws.{length-bytes32, length-document}
 use Rattle.laws.proofs.OutputLaws.{length-put, take-put, take-put-in, put-over}
-use Rattle.laws.proofs.WriterWords.{onceMore, fresh-words, grown-words, grown-used, grown-other, grown-depth, grown-mark, pushed-words, pushed-other}
-use Rattle.laws.proofs.WriterWords.{pushed-used, pushed-depth, pushed-start, pushed-mark, popped-words, popped-used, popped-depth, popped-other}
+use Rattle.laws.proofs.WriterWords.{onceMore, fresh-words, grown-words, grown-used, grown-other, grown-depth, grown-mark, pushed-words}
+use Rattle.laws.proofs.WriterWords.{pushed-other}
+use Rattle.laws.proofs.WriterWords.{pushed-used, pushed-depth, pushed-start, pushed-mark, popped-words, popped-used, popped-depth}
+use Rattle.laws.proofs.WriterWords.{popped-other}
 use Rattle.laws.proofs.WriterLaws.{room-within, innermost-says, desk-sizes, taken, Appended, appended-says, opened-says, topped-says}
 use Rattle.laws.proofs.WriterLaws.{sealed, closed-says, bytes-behind}
 use Rattle.laws.proofs.TreeLaws.{count-behind, leaf-bytes, none-length}
 use Rattle.theorems.proofs.Writer.DeskHolds.{shown, startOf, kindFor, kindIs, Tied, HoldsAll, many, Holds}
-use Rattle.theorems.proofs.Writer.OpenBytes.{shown-with, start-with, shown-opened, front, shown-front, start-front, front-tree, shown-length, shown-top}
+use Rattle.theorems.proofs.Writer.OpenBytes.{shown-with, start-with, shown-opened, front, shown-front, start-front, front-tree}
+use Rattle.theorems.proofs.Writer.OpenBytes.{shown-length, shown-top}
 
 -- the words
 
@@ -201,7 +206,8 @@ top-holds buffer e q =
 
 -- closing: the innermost's bytes are whole, and it is an element begun in the one around it
 
-module _ (d : Desk) (o : Open) (around : List Open) (h : Holds d (o ∷ around)) (kind : Kind) (i : innermost (d .state) (roomOf d) ≡ gives kind) where
+module _ (d : Desk) (o : Open) (around : List Open) (h : Holds d (o ∷ around)) (kind : Kind)
+    (i : innermost (d .state) (roomOf d) ≡ gives kind) where
   at-front : start (d .state) (depth (d .state) - 1) ≡ length (front o around)
   at-front = start-is d o around h ∙ start-front o around
 
@@ -255,7 +261,8 @@ close-begun d e o around h q =
 pub close-holds : (d e : Desk) (o p : Open) (around : List Open) → Holds d (o ∷ p ∷ around) → answer close d ≡ gives e
     → Holds e (with p (nest (embedded (o .nest)) (o .key) (o .inside) none) ∷ around)
 close-holds d e o p around h q =
-    element-counted e p around (nest (embedded (o .nest)) (o .key) (o .inside) none) refl (rw (← front-tree o p around) (close-begun d e o (p ∷ around) h q))
+    element-counted e p around (nest (embedded (o .nest)) (o .key) (o .inside) none) refl
+    (rw (← front-tree o p around) (close-begun d e o (p ∷ around) h q))
 
 -- the top, closed
 pub record Ended (e : Desk) (t : Elements) : Type 0 where

@@ -13,7 +13,8 @@ use Rattle.bson.specs.Writer.{State, fresh, used, depth, mark, kindOf, kindHold
 use Rattle.bson.specs.Writer.{keyPasses, openTop, close, append, openNest, answer}
 use Rattle.laws.proofs.GrammarLaws.{length-bytes32, length-element}
 use Rattle.laws.proofs.WriterWords.{fresh-closed}
-use Rattle.laws.proofs.WriterLaws.{stand-gives, possible-gives, innermost-gives, Appended, appended-gives, opened-gives, topped-gives, closed-gives}
+use Rattle.laws.proofs.WriterLaws.{stand-gives, possible-gives, innermost-gives, Appended, appended-gives, opened-gives, topped-gives}
+use Rattle.laws.proofs.WriterLaws.{closed-gives}
 use Rattle.laws.proofs.TreeLaws.{count-within}
 use Rattle.theorems.specs.ReadBack.{Open, keyFor}
 use Rattle.theorems.proofs.Writer.DeskHolds.{shown, startOf, kindFor, kindIs, Tied, many, Holds}
@@ -29,7 +30,8 @@ kind-holds most array c h = le-leb c most h
 
 module _ (w : State) where
   -- where those around stand, the innermost does
-  tied-stands : (begun : ℕ) (o : Open) (around : List Open) (end : ℕ) → Tied w begun (o ∷ around) → length (shown (o ∷ around)) + begun ≤ end
+  tied-stands : (begun : ℕ) (o : Open) (around : List Open) (end : ℕ) → Tied w begun (o ∷ around)
+      → length (shown (o ∷ around)) + begun ≤ end
       → end ≤ used w → stand w (length around) (startOf (o ∷ around)) ≡ true → stand w (suc (length around)) end ≡ true
   unfolding Tied
   tied-stands begun o around end t h g s =
@@ -58,7 +60,8 @@ unfolding answer
 opening-taken d n key e a = (_, opened-gives d n key _ (record { between = e; element = a; is = refl }))
 
 module _ (d : Desk) (o : Open) (around : List Open) (h : Holds d (o ∷ around)) where
-  held-innermost : length around ≤ 201 → used (d .state) + suc (length around) ≤ roomOf d → innermost (d .state) (roomOf d) ≡ gives (kindIs o 0)
+  held-innermost : length around ≤ 201 → used (d .state) + suc (length around) ≤ roomOf d
+      → innermost (d .state) (roomOf d) ≡ gives (kindIs o 0)
   unfolding Tied
   held-innermost low fits =
       let w = d .state in

@@ -26,7 +26,8 @@ start-with o (p ∷ around) t = refl
 pub shown-opened : (n : Embedded) (key : List ℕ) (o : Open) (around : List Open)
     → shown (openOf n key none ∷ o ∷ around) ≡ shown (o ∷ around) ++ elementBytes (nestTag (embedded n)) key (bytes32 5)
 unfolding shown listBytes
-shown-opened n key o around = ap (λ (l : List ℕ). shown (o ∷ around) ++ l) (append-nil (elementBytes (nestTag (embedded n)) key (bytes32 5)))
+shown-opened n key o around =
+    ap (λ (l : List ℕ). shown (o ∷ around) ++ l) (append-nil (elementBytes (nestTag (embedded n)) key (bytes32 5)))
 
 element-front : (tag : ℕ) (key value : List ℕ) → elementBytes tag key value ≡ elementBytes tag key [] ++ value
 unfolding elementBytes
@@ -51,14 +52,21 @@ pub front-tree : (o p : Open) (around : List Open)
     → front o (p ∷ around) ++ treeBytes (o .inside) ≡ shown (p ∷ around) ++ listBytes (nest (embedded (o .nest)) (o .key) (o .inside) none)
 unfolding front
 front-tree o p around =
-    rw (nest-bytes (o .nest) (o .key) (o .inside), element-front (nestTag (embedded (o .nest))) (o .key) (treeBytes (o .inside))) (simp (append-assoc))
+    rw (nest-bytes (o .nest) (o .key) (o .inside), element-front (nestTag (embedded (o .nest))) (o .key) (treeBytes (o .inside)))
+    (simp (append-assoc))
 
 -- how many they are: the innermost's start, its length and its elements
 pub shown-length : (o : Open) (around : List Open) → length (shown (o ∷ around)) ≡ startOf (o ∷ around) + 4 + length (listBytes (o .inside))
 shown-length o around =
     let list = listBytes (o .inside) in
     ap length (shown-front o around)
-    ∙ omega (arith, length-append (front o around) (bytes32 5 ++ list), length-append (bytes32 5) list, length-bytes32 5, start-front o around)
+    ∙ omega (
+      arith,
+      length-append (front o around) (bytes32 5 ++ list),
+      length-append (bytes32 5) list,
+      length-bytes32 5,
+      start-front o around,
+    )
 
 pub start-nested : (o p : Open) (around : List Open) → startOf (o ∷ p ∷ around) ≡ length (shown (p ∷ around)) + (2 + length (o .key))
 unfolding startOf

@@ -43,7 +43,8 @@ Sounds [] = Unit
 Sounds (o ∷ []) = (isArray (embedded (o .nest)) ≡ false) × Sound o 0
 Sounds (o ∷ p ∷ around) = Keyed (o .key) p (length around) × (Sound o (length (p ∷ around)) × Sounds (p ∷ around))
 
-sound-with : (o : Open) (level : ℕ) (t : Elements) → Sound o level → InOrder t → Numbered (isArray (embedded (o .nest))) (count (o .inside)) t → Shallow level t
+sound-with : (o : Open) (level : ℕ) (t : Elements) → Sound o level → InOrder t
+    → Numbered (isArray (embedded (o .nest))) (count (o .inside)) t → Shallow level t
     → Sound (with o t) level
 sound-with o level t s g n h = record {
   ordered = ordered-behind (o .inside) t (s .ordered) g;
@@ -51,7 +52,8 @@ sound-with o level t s g n h = record {
   shallow = shallow-behind level (o .inside) t (s .shallow) h;
 }
 
-sounds-with : (o : Open) (around : List Open) (t : Elements) → Sounds (o ∷ around) → InOrder t → Numbered (isArray (embedded (o .nest))) (count (o .inside)) t
+sounds-with : (o : Open) (around : List Open) (t : Elements) → Sounds (o ∷ around) → InOrder t
+    → Numbered (isArray (embedded (o .nest))) (count (o .inside)) t
     → Shallow (length around) t → Sounds (with o t ∷ around)
 unfolding Sounds
 sounds-with o [] t s g n h = (s .0, sound-with o 0 t (s .1) g n h)
@@ -59,12 +61,14 @@ sounds-with o (p ∷ around) t s g n h = (s .0, (sound-with o (length (p ∷ aro
 
 -- the key of an accepted element
 
-key-valid : (n : Embedded) (c : ℕ) (key : List ℕ) → keyPasses (kindFor n (c + 0)) key ≡ true → validCstr (cond (isArray (embedded n)) (decimal c) key) ≡ true
+key-valid : (n : Embedded) (c : ℕ) (key : List ℕ) → keyPasses (kindFor n (c + 0)) key ≡ true
+    → validCstr (cond (isArray (embedded n)) (decimal c) key) ≡ true
 unfolding keyPasses
 key-valid document c key e = e
 key-valid array c key e = decimal-valid c
 
-accepted-key : (d e : Desk) (o : Open) (around : List Open) (more tag : ℕ) (key : List ℕ) (good : Bool) (value : List ℕ) → Holds d (o ∷ around)
+accepted-key : (d e : Desk) (o : Open) (around : List Open) (more tag : ℕ) (key : List ℕ) (good : Bool) (value : List ℕ)
+    → Holds d (o ∷ around)
     → Appended d more tag key good value e → Keyed (keyFor o key) o (length around)
 accepted-key d e o around more tag key good value h a =
     let k = kind-is d o around h (a .kind) (a .inner) in
@@ -76,7 +80,8 @@ accepted-key d e o around more tag key good value h a =
 
 -- what the calls make of the open documents
 
-append-sounds : (d e : Desk) (o : Open) (around : List Open) (key : List ℕ) (v : Item) → Holds d (o ∷ around) → Sounds (o ∷ around) → Fitting v
+append-sounds : (d e : Desk) (o : Open) (around : List Open) (key : List ℕ) (v : Item) → Holds d (o ∷ around) → Sounds (o ∷ around)
+    → Fitting v
     → answer (append key v) d ≡ gives e → Sounds (with o (leaf (keyFor o key) v none) ∷ around)
 unfolding answer
 append-sounds d e o around key v h s f q =
@@ -92,12 +97,14 @@ open-sounds d e o around n key h s q =
     let k = accepted-key d (p .between) o around 1 (nestTag (embedded n)) key true (bytes32 5) h (p .element) in
     (k, (record { ordered = tt; numbered = tt; shallow = tt }, s))
 
-close-sounds : (o p : Open) (around : List Open) → Sounds (o ∷ p ∷ around) → Sounds (with p (nest (embedded (o .nest)) (o .key) (o .inside) none) ∷ around)
+close-sounds : (o p : Open) (around : List Open) → Sounds (o ∷ p ∷ around)
+    → Sounds (with p (nest (embedded (o .nest)) (o .key) (o .inside) none) ∷ around)
 unfolding Sounds
 close-sounds o p around s =
     let k = s .0 in
     let i = s .1 .0 in
-    sounds-with p around (nest (embedded (o .nest)) (o .key) (o .inside) none) (s .1 .1) (k .valid, (refl, (i .ordered, tt))) (k .numbered, (i .numbered, tt))
+    sounds-with p around (nest (embedded (o .nest)) (o .key) (o .inside) none) (s .1 .1) (k .valid, (refl, (i .ordered, tt)))
+    (k .numbered, (i .numbered, tt))
     (k .low, (rw add-one (i .shallow), tt))
 
 -- what must be open: nothing for the top, with nothing used; something for every other call
@@ -153,8 +160,10 @@ module _ (buffer : List ℕ) where
 
   top-kept : (d e : Desk) → d ≡ desk fresh buffer → answer openTop d ≡ gives e → Kept e (building (openOf document [] none) [])
   unfolding Sounds
-  top-kept d e f q =
-      (top-holds buffer e (subst (λ (x : Desk). answer openTop x ≡ gives e) f q), (refl, record { ordered = tt; numbered = tt; shallow = tt }))
+  top-kept d e f q = (
+    top-holds buffer e (subst (λ (x : Desk). answer openTop x ≡ gives e) f q),
+    (refl, record { ordered = tt; numbered = tt; shallow = tt }),
+  )
 
   begun-closed : (d : Desk) → d ≡ desk fresh buffer → depth (d .state) ≡ 0
   begun-closed d f = ap (λ (x : Desk). depth (x .state)) f ∙ fresh-closed

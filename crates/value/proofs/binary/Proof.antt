@@ -13,7 +13,13 @@ returns-2 : tie.Need-returns-2
 unfolding binaryValue
 returns-2 c =
     let d = c .before .before in
-    rw (c .trim2 .ensures, ← d .before .before .byte-or-zero .ensures, d .before .if1 .left, ← d .is-old-binary .ensures, c .before .if2 .taken)
+    rw (
+      c .trim2 .ensures,
+      ← d .before .before .byte-or-zero .ensures,
+      d .before .if1 .left,
+      ← d .is-old-binary .ensures,
+      c .before .if2 .taken,
+    )
 
 returns-3 : tie.Need-returns-3
 unfolding binaryValue

@@ -6,7 +6,8 @@ use Rattle.visit.proofs.key_passes.Statement.{statement}
 use Rattle.visit.proofs.key_passes.Tie as tie
 
 returns : tie.Need-returns
-returns c position = rw (c .before .before .if1 .taken) (c .is-good .ensures position ∙ ap (goodArrayKey position) (c .before .bytes-of .ensures))
+returns c position =
+    rw (c .before .before .if1 .taken) (c .is-good .ensures position ∙ ap (goodArrayKey position) (c .before .bytes-of .ensures))
 
 returns-2 : tie.Need-returns-2
 returns-2 c position = rw (c .if1 .left)

@@ -1,5 +1,5 @@
--- `whole::walk_document` and `whole::open_value`, which call each other, meet their contracts: the depth left plus the bytes left fall (document
--- 01, "Where each language form belongs").
+-- `whole::walk_document` and `whole::open_value`, which call each other, meet their contracts: the depth left plus the bytes left fall
+-- (document 01, "Where each language form belongs").
 use mathlib.Core.Path.{_≡_, sym, ap, _∙_}
 use mathlib.Core.Bool.{false}
 use native.Mathlib.Omega.{arith}
@@ -82,7 +82,8 @@ open-value-add-place t c = let y = c .before .before .before .before .before .be
 open-value-visits : (t : ℕ) (c : open-value-lts.After-opening2 (open-calls t) (open-at t) open-value.Post) (position : ℕ)
     → let a = c .before .before .before .before .before .before .before .args in
     let o = c .opening2 .given .0 in
-    visit (a .strict) (a .s .now) (saidLevel (a .level)) position (saidElement (a .element)) ≡ gives (opens (o .0) (o .1 .0) (saidPart (o .1 .1 .0)))
+    visit (a .strict) (a .s .now) (saidLevel (a .level)) position (saidElement (a .element))
+    ≡ gives (opens (o .0) (o .1 .0) (saidPart (o .1 .1 .0)))
 open-value-visits t c position =
     visited-is _ _ _ _ (c .before .before .before .before .before .visit-framed .ensures position)
     (c .before .before .before .opening .given .1 ∙ ap Is (c .opening2 .given .1))
@@ -91,7 +92,8 @@ open-value-enters : (t : ℕ) (c : open-value-lts.After-opening2 (open-calls t) 
     → let a = c .before .before .before .before .before .before .before .args in
     let o = c .opening2 .given .0 in
     Enters (a .s .now) (saidLevel (a .level)) (cursor (a .element .place) false) (o .1 .0) (saidPart (o .1 .1 .0))
-open-value-enters t c = enters _ _ _ 0 _ _ (c .before .before .before .before .before .before .before .pre .1 .1) _ _ _ (open-value-visits t c 0)
+open-value-enters t c =
+    enters _ _ _ 0 _ _ (c .before .before .before .before .before .before .before .pre .1 .1) _ _ _ (open-value-visits t c 0)
 
 open-value-add-base : (t : ℕ) → open-value-lts.Need-add-base (open-calls t) (open-at t) open-value.Post
 open-value-add-base t c = let r = open-value-enters t (c .before .before .before) in omega arith
@@ -106,7 +108,8 @@ open-value-part-walk-document-end : (t : ℕ) → open-value-lts.Need-part-walk-
 open-value-part-walk-document-end t c = let r = open-value-enters t (c .before .before .before .before .before) in omega arith
 
 open-value-walk-document-requires : (t : ℕ) → open-value-lts.Need-walk-document-requires (open-calls t) (open-at t) open-value.Post
-open-value-walk-document-requires t c κs = let r = open-value-enters t (c .before .before .before .before .before .before) in (omega arith, omega arith)
+open-value-walk-document-requires t c κs =
+    let r = open-value-enters t (c .before .before .before .before .before .before) in (omega arith, omega arith)
 
 open-value-add-all : (t : ℕ) → open-value-lts.Need-add-all (open-calls t) (open-at t) open-value.Post
 open-value-add-all t c =
@@ -119,7 +122,8 @@ open-value-add-all t c =
 
 open-value-returns : (t : ℕ) → open-value-lts.Need-returns (open-calls t) (open-at t) open-value.Post
 open-value-returns t c position =
-    let v = visited-refused _ _ _ _ (c .before .before .before .before .before .visit-framed .ensures position) (c .before .before .before .number .given .1) in
+    let v = visited-refused _ _ _ _ (c .before .before .before .before .before .visit-framed .ensures position)
+    (c .before .before .before .number .given .1) in
     opened-refused _ _ _ _ position _ _ _ v
 
 open-value-returns-2 : (t : ℕ) → open-value-lts.Need-returns-2 (open-calls t) (open-at t) open-value.Post
@@ -146,7 +150,8 @@ open-value-returns-4 t c position =
 -- the loop goes over `whole`, which is all of the slice
 abbrev Inv-loop : walk-document-lts.InvT-loop
 Inv-loop s strict level limit whole offset₀ count₀ offset count =
-    (whole ≡ s) × (position : ℕ) × (count + 4 ≤ offset) × (offset ≤ length s + 4) × LeftFrom (limitOf limit) strict s (saidLevel level) offset count position
+    (whole ≡ s) × (position : ℕ) × (count + 4 ≤ offset) × (offset ≤ length s + 4)
+    × LeftFrom (limitOf limit) strict s (saidLevel level) offset count position
 
 abbrev μ-loop : walk-document-lts.MeasureT-loop
 μ-loop s strict level limit whole offset₀ count₀ offset count = length s + 4 - offset
@@ -172,7 +177,8 @@ walk-document-returns-2 t c =
     let x = answered step.said (c .before .before .before .before .next-under .ensures .0) (c .before .before .number .given .1) in
     left-refused _ _ _ _ _ _ _ (i .4) _ _ (rw (i .0) at x)
 
-walk-document-open-value-requires : (t : ℕ) → walk-document-lts.Need-open-value-requires (walk-calls t) (walk-at t) walk-document.Post Inv-loop μ-loop
+walk-document-open-value-requires : (t : ℕ)
+    → walk-document-lts.Need-open-value-requires (walk-calls t) (walk-at t) walk-document.Post Inv-loop μ-loop
 walk-document-open-value-requires t c κs =
     let i = c .before .before .before .before .loop .inv in
     let x = answered step.said (c .before .before .before .next-under .ensures .0) (c .before .element .given .1) in

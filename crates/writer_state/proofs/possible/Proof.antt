@@ -11,7 +11,8 @@ add-if2 : tie.Need-add-if2
 add-if2 c = omega arith
 
 returns-2 : tie.Need-returns-2
-returns-2 c = past-the-room _ _ _ (c .before .before .before .depth .ensures .0) (omega arith) _ (c .before .used .ensures .0) (c .if2 .taken)
+returns-2 c =
+    past-the-room _ _ _ (c .before .before .before .depth .ensures .0) (omega arith) _ (c .before .used .ensures .0) (c .if2 .taken)
 
 stand-requires : tie.Need-stand-requires
 stand-requires c κs = omega arith

@@ -50,7 +50,8 @@ enum-told c = c .match .keys2
 returns-3 : tie.Need-returns-3
 returns-3 c =
     let k = c .before .before .before .before in
-    kind-holds _ _ _ _ _ (omega arith) (answered said (k .before .kind-of .ensures) (c .before .before .before .kind .given .1)) (c .holds .ensures)
+    kind-holds _ _ _ _ _ (omega arith) (answered said (k .before .kind-of .ensures) (c .before .before .before .kind .given .1))
+    (c .holds .ensures)
 
 returns-4 : tie.Need-returns-4
 returns-4 c = kind-holds _ _ _ _ _ (omega arith) (answered said (c .before .before .kind-of .ensures) (c .enum-told .given .1)) refl

@@ -14,7 +14,8 @@ returns : tie.Need-returns
 returns c =
     let s = c .before .before .before .before .before .before .before .before in
     let a = s .args in
-    passed w64 (a .n) (s .fits .n) (λ (z : ℤ). performed (append (a .key .now) (dateTime z)) (a .w .words) (a .out .now)) (c .before .before .append-datetime .ensures)
+    passed w64 (a .n) (s .fits .n) (λ (z : ℤ). performed (append (a .key .now) (dateTime z)) (a .w .words) (a .out .now))
+    (c .before .before .append-datetime .ensures)
 
 pub append-datetime-spec : {M : Type 1} → statement M
 append-datetime-spec = tie.close (tie.spec (λ c κs. tt) same-length returns)

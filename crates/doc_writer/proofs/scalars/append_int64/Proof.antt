@@ -14,7 +14,8 @@ returns : tie.Need-returns
 returns c =
     let s = c .before .before .before .before .before .before .before .before in
     let a = s .args in
-    passed w64 (a .n) (s .fits .n) (λ (z : ℤ). performed (append (a .key .now) (int64 z)) (a .w .words) (a .out .now)) (c .before .before .append-int64 .ensures)
+    passed w64 (a .n) (s .fits .n) (λ (z : ℤ). performed (append (a .key .now) (int64 z)) (a .w .words) (a .out .now))
+    (c .before .before .append-int64 .ensures)
 
 pub append-int64-spec : {M : Type 1} → statement M
 append-int64-spec = tie.close (tie.spec (λ c κs. tt) same-length returns)

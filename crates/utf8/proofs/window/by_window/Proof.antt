@@ -18,13 +18,16 @@ loop-holds c =
     let k = c .before .before .before .before .before .before .shared-slice-known .given in
     let a = c .before .before .before .before .before .byte-or-zero .ensures in
     let b = c .before .before .before .before .byte-or-zero2 .ensures in
-    let d = c .before .before .before .byte-or-zero3 .ensures in
-    (omega arith, went-start (λ i. k i .fits) a b d (c .before .before .is-stray .ensures) (c .before .is-stray2 .ensures) (c .is-stray3 .ensures))
+    let d = c .before .before .before .byte-or-zero3 .ensures in (
+      omega arith,
+      went-start (λ i. k i .fits) a b d (c .before .before .is-stray .ensures) (c .before .is-stray2 .ensures) (c .is-stray3 .ensures),
+    )
 
 loop-again : tie.Need-loop-again Inv-loop μ-loop
 loop-again c =
-    let k = c .before .before .before .before .before .before .before .before .before .before .before .before .before .shared-slice-known .given in
-    went-turn (λ i. k i .fits) (c .before .before .before .before .before .before .loop .inv) (c .is-stray4 .ensures)
+    let b = c .before .before .before .before .before .before in
+    let k = b .before .before .before .before .before .before .before .shared-slice-known .given in
+    went-turn (λ i. k i .fits) (b .loop .inv) (c .is-stray4 .ensures)
 
 returns : tie.Need-returns Inv-loop μ-loop
 returns c =
