@@ -18,6 +18,8 @@ use Rattle.laws.proofs.WriterLaws.{room-within, innermost-says, DeskSizes, desk
 use Rattle.laws.proofs.WriterRefusals.{room-refused}
 use Rattle.appending.specs.Element.{numberOf, headed, heading}
 
+-- ---- the texts of a head
+
 -- the texts of a head are its bytes
 abbrev pub texts : ℕ → List ℕ → List (List ℕ)
 texts tag key = (tag ∷ []) ∷ key ∷ (0 ∷ []) ∷ []
@@ -41,6 +43,8 @@ module _ (w : State) (buffer : List ℕ) (m : ℕ) (kind : Kind) (em : m ≡ roo
   -- what a word more relies on
   pub few : (depth w ≤ 202) × (kindHolds 2147483647 kind ≡ true)
   few = (known .most, still-holds kind (used w) (omega (arith, known .small)) (known .counted))
+
+-- ---- the head put
 
 module _ (w : State) (buffer : List ℕ) (m : ℕ) (kind : Kind) (em : m ≡ room (length buffer)) (ei : innermost w m ≡ gives kind)
     (more tag : ℕ) (key : List ℕ) (good : Bool) (size : ℕ) where

@@ -20,6 +20,8 @@ use Rattle.laws.proofs.WriterLaws.{room-within, innermost-says, desk-sizes, roo
 use Rattle.laws.proofs.WriterRefusals.{appended-refused, accepted-from}
 use Rattle.appending.specs.Element.{appending, headed, heading}
 
+-- ---- the tests in front
+
 then-assoc : {A B C : Type 0} (x : Answer A) (f : A → Answer B) (g : B → Answer C) → then (then x f) g ≡ then x (λ a. then (f a) g)
 then-assoc (gives a) f g = refl
 then-assoc (refuses n p) f g = refl
@@ -71,6 +73,8 @@ module _ (d : Desk) (more tag : ℕ) (key : List ℕ) (good : Bool) (value : Lis
       let head = elementBytes tag (keyIn kind key) [] in
       gives (desk (grown kind w (length head + length value)) (put (d .buffer) (used w) head))) filled
       ∙ then-same tests _ _ filled-is)
+
+-- ---- the value behind the head
 
 module _ (w : State) (buffer : List ℕ) (more tag : ℕ) (key : List ℕ) (good : Bool) (value : List ℕ) (size : ℕ) (es : size ≡ length value)
     (n : ℕ) (v : State) (b : List ℕ) (e : written n v b ≡ heading w buffer more tag key good size) where
@@ -128,6 +132,8 @@ module _ (w : State) (buffer : List ℕ) (more tag : ℕ) (key : List ℕ) (good
         ≡ put b at (joined texts) = ap (λ (o : Output). o .buffer) (eo ∙ texts-fit (output b at) texts (omega (arith, f .0, f .1))) in
         let i : at ≡ used v - length value = omega arith in
         rw (given, z, x, ej, i)
+
+-- ---- a head alone
 
 -- whatever the value, it has room
 pub head-ready : (w : State) (buffer : List ℕ) (more tag : ℕ) (key : List ℕ) (good : Bool) (size n : ℕ) (v : State) (b : List ℕ)

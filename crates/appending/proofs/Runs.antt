@@ -15,6 +15,8 @@ use Rattle.laws.proofs.WriterLaws.{room-within, room-says}
 use Rattle.appending.specs.Element.{appending, headed, heading, bounded}
 use Rattle.appending.proofs.Filled.{head-refused, value-fits, value-put}
 
+-- ---- sizes within every room, and over it
+
 pub within : (n : ℕ) → n ≤ 2147483647 → n ≡ bounded n
 unfolding bounded
 within n h = rw (le-leb n 2147483647 h)
@@ -25,6 +27,8 @@ over n h = rw (lt-leb n 2147483647 h)
 
 no-room : (u k n d m : ℕ) → m ≤ 2147483647 → 2147483647 < n → leb (u + (2 + k + n) + d) m ≡ false
 no-room u k n d m h g = lt-leb (u + (2 + k + n) + d) m (omega arith)
+
+-- ---- an element by its size, and by one that no room has
 
 module _ (w : State) (buffer : List ℕ) (more tag : ℕ) (key : List ℕ) (good : Bool) where
   space : ℕ

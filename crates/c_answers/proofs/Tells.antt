@@ -28,6 +28,8 @@ use Rattle.c_answers.specs.declared.FoundNumbers.{FoundNumbers}
 use Rattle.c_answers.specs.declared.JoinedNumbers.{JoinedNumbers}
 use Rattle.c_answers.specs.declared.StepNumbers.{StepNumbers}
 
+-- ---- numbers and answers
+
 -- numbers from which answers are had again tell them
 pub tells : {A N : Type 0} (back : N → A) {m n : N} {a b : A} → back m ≡ a → back n ≡ b → m ≡ n → a ≡ b
 tells back p q e = sym p ∙ ap back e ∙ q
@@ -40,6 +42,8 @@ pub answer-refused : {A : Type 0} (number place : ℕ) (a : A) → 0 < number �
 answer-refused number place a h = rw (ne-eqb number 0 (λ e. omega arith))
 
 -- the whole check
+
+-- ---- the check
 
 abbrev verdictOf : VerdictNumbers → Answer ℕ
 verdictOf v = answerOf (v .number) (v .place) (v .count)
@@ -61,6 +65,8 @@ check-tells limit limit′ strict strict′ s t = verdict-tells _ _ (check-no-ze
 
 -- whether a document is empty
 
+-- ---- is_empty
+
 abbrev emptinessOf : VerdictNumbers → Answer Bool
 emptinessOf v = answerOf (v .number) (v .place) (eqb (v .count) 1)
 
@@ -76,6 +82,8 @@ pub empty-tells : (s t : List ℕ) → emptiness (isEmpty s) ≡ emptiness (isEm
 empty-tells s t = emptiness-tells _ _ (no-zero refl (empty-in s)) (no-zero refl (empty-in t))
 
 -- joining
+
+-- ---- joining
 
 abbrev outcomeOf : JoinedNumbers → Outcome
 outcomeOf v = cond (eqb (v .number) 0) (wrote (v .length)) (refused (v .number) (v .place) (v .which))
@@ -95,6 +103,8 @@ pub join-tells : (first second buffer first′ second′ buffer′ : List ℕ)
 join-tells first second buffer first′ second′ buffer′ = joined-tells _ _ (join-in first second buffer) (join-in first′ second′ buffer′)
 
 -- a step, and the cursor behind it: this is ended unless an element was yielded
+
+-- ---- steps
 
 abbrev stepOf : StepNumbers → Answer Step
 stepOf v =
@@ -130,6 +140,8 @@ step-tells limit limit′ s t c d = stepped-tells c d _ _ (step-no-zero limit s 
     step-no-zero l v k = no-zero-under steps l refl (λ m. refl) (step-in l v k)
 
 -- a lookup: the numbers keep of an element its place, its tag and its value's framed bytes
+
+-- ---- lookups
 
 abbrev pub Sight : Type 0
 Sight = ℕ × (ℕ × Part)

@@ -34,6 +34,8 @@ use Value.{string, code}
 use Value.{symbol, null, undefined, minKey, maxKey, dbPointer, binary, regex, asLeaf, bool, timestampOf, text, binaryValue, content}
 use Value.{valueIn, valueOf, readAtUnder, partsOf}
 
+-- ---- values, type by type
+
 -- the value of a tag, a number and two parts
 abbrev valueFrom : ℕ → ℕ → Part → Part → Value
 valueFrom tag bits p q =
@@ -135,6 +137,8 @@ module _ (s : List ℕ) (small : AreBytes s) where
         let (u, x2) = unless-gives (leb (past e) (length s)) 9 _ (at-gives (e .place) _ x1) in
         let (t, r, x3) = then-gives (typeOf (e .tag)) _ x2 in
         content-had (e .value) t x3
+
+-- ---- a reading
 
 abbrev readOf : ValueNumbers → Answer Value
 readOf n = answerOf (n .number) (n .place) (valueFrom (n .tag) (n .bits) (part (n .offset) (n .size)) (part (n .offset2) (n .size2)))

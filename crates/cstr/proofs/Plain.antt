@@ -17,6 +17,8 @@ use Rattle.laws.proofs.Common.{split}
 use Rattle.laws.proofs.Utf8Laws.{next-ascii}
 use Rattle.cstr.specs.Scan.{stopsAt, plain, PlainOf}
 
+-- ---- four bytes at a time
+
 -- two bytes that pass, and two more
 pub two-and-two : (v : List ℕ) (o n m : ℕ) → PlainOf 2 v o n → 2 ≤ n → PlainOf 2 v (o + 2) m → PlainOf 4 v o (2 + m)
 two-and-two v o n m w h x =
@@ -52,6 +54,8 @@ stop-in-four v o h a b c d ea eb ec ed =
       plain-turn v (o + 3) (o + 4) (omega arith) (omega arith) d ed,
     ) (some-of-four a b c d (plain (drop (o + 4) v)))
 
+-- ---- plain bytes passed over
+
 -- bytes that are plain, passed over
 plain-past : (v : List ℕ) (n : ℕ) → n ≤ plain v → plain v ≡ n + plain (drop n v)
 plain-past v zero h = omega arith
@@ -68,6 +72,8 @@ module _ (k : List ℕ) (i : ℕ) (e : i + plain (drop i k) ≡ plain k) where
 
   pub plain-short : plain (drop i k) < 4 → 4 ≤ length k - i → false ≡ eqb (plain k) (length k)
   plain-short h g = sym (ne-eqb (plain k) (length k) λ q. omega arith)
+
+-- ---- what plain bytes are
 
 neither : (a b : Bool) → (a || b) ≡ false → (a ≡ false) × (b ≡ false)
 neither true b e = absurd (true≢false e)
@@ -94,6 +100,8 @@ plain-read (b ∷ v) =
 plain-utf8 : (v : List ℕ) → utf8 (take (plain v) v) ≡ true
 unfolding utf8
 plain-utf8 v = rw (plain-read v)
+
+-- ---- what the code answers
 
 module _ (v : List ℕ) (i : ℕ) (q : i ≡ plain v) where
   pub plain-found : i < length v → getD v i 0 ≡ 0 → (number : ℕ) → gives i ≡ zeroText number v

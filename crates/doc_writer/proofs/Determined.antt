@@ -55,6 +55,8 @@ use Rattle.doc_writer.proofs.bytes.append_object_id.Kinds as append-obj
 use Rattle.doc_writer.proofs.bytes.append_decimal128.Reads as append-decimal128-reads
 use Rattle.doc_writer.proofs.bytes.append_decimal128.Kinds as append-decimal128-kinds
 
+-- ---- documents and arrays
+
 -- a result is its number and its state
 pub result-same : (r₁ r₂ : Written) (b₁ b₂ : List ℕ) (x : writer.Written) → writer.written (r₁ .number) (r₁ .writer .words) b₁ ≡ x
     → writer.written (r₂ .number) (r₂ .writer .words) b₂ ≡ x → (r₁ ≡ r₂) × (b₁ ≡ b₂)
@@ -81,6 +83,8 @@ open-array-determined κs a r₁ r₂ s₁ s₂ p q = result-same r₁ r₂ _ _ 
 pub close-determined : (κs : Lfts 1) (a : Dens κs close-kinds.ps)
     → DeterminedBuf (λ s. now (s .0)) (close-reads.Post κs a)
 close-determined κs a r₁ r₂ s₁ s₂ p q = result-same r₁ r₂ _ _ _ p q
+
+-- ---- scalars
 
 pub append-double-determined : (κs : Lfts 2) (a : Dens κs append-double-kinds.ps)
     → DeterminedBuf (λ s. now (s .0)) (append-double-reads.Post κs a)
@@ -121,6 +125,8 @@ append-min-key-determined κs a r₁ r₂ s₁ s₂ p q = result-same r₁ r₂ 
 pub append-max-key-determined : (κs : Lfts 2) (a : Dens κs append-max-key-kinds.ps)
     → DeterminedBuf (λ s. now (s .0)) (append-max-key-reads.Post κs a)
 append-max-key-determined κs a r₁ r₂ s₁ s₂ p q = result-same r₁ r₂ _ _ _ p q
+
+-- ---- texts, data and ids
 
 pub append-string-determined : (κs : Lfts 3) (a : Dens κs append-string-kinds.ps)
     → DeterminedBuf (λ s. now (s .0)) (append-string-reads.Post κs a)

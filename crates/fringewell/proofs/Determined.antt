@@ -88,6 +88,8 @@ use Rattle.fringewell.proofs.fringewell_append_decimal128.Kinds as appe
 both : {A B : Type 0} {x : A × B} (a₁ a₂ : A) (b₁ b₂ : B) → (a₁, b₁) ≡ x → (a₂, b₂) ≡ x → (a₁ ≡ a₂) × (b₁ ≡ b₂)
 both {A} {B} a₁ a₂ b₁ b₂ p q = (ap (λ (y : A × B). y .0) (p ∙ sym q), ap (λ (y : A × B). y .1) (p ∙ sym q))
 
+-- ---- the check
+
 pub fringewell-check-determined : (κs : Lfts 1) (a : Dens κs check-kinds.ps) → Determined (check-reads.Post κs a)
 fringewell-check-determined κs a r₁ r₂ s₁ s₂ p q = p ∙ sym q
 
@@ -104,6 +106,8 @@ fringewell-check-strict-under-determined κs a r₁ r₂ s₁ s₂ p q = p ∙ s
 pub fringewell-is-empty-determined : (κs : Lfts 1) (a : Dens κs is-empty-kinds.ps) → Determined (is-empty-reads.Post κs a)
 fringewell-is-empty-determined κs a r₁ r₂ s₁ s₂ p q = p ∙ sym q
 
+-- ---- lookup
+
 pub fringewell-lookup-determined : (κs : Lfts 2) (a : Dens κs lookup-kinds.ps) → Determined (lookup-reads.Post κs a)
 fringewell-lookup-determined κs a r₁ r₂ s₁ s₂ p q = p ∙ sym q
 
@@ -116,6 +120,8 @@ fringewell-lookup-typed-determined κs a r₁ r₂ s₁ s₂ p q = p ∙ sym q
 pub fringewell-lookup-typed-under-determined : (κs : Lfts 2) (a : Dens κs lookup-typed-under-kinds.ps)
     → Determined (lookup-typed-under-reads.Post κs a)
 fringewell-lookup-typed-under-determined κs a r₁ r₂ s₁ s₂ p q = p ∙ sym q
+
+-- ---- steps and readings
 
 pub fringewell-step-determined : (κs : Lfts 1) (a : Dens κs step-kinds.ps) → Determined (step-reads.Post κs a)
 fringewell-step-determined κs a r₁ r₂ s₁ s₂ p q = p ∙ sym q
@@ -132,8 +138,12 @@ fringewell-read-under-determined κs a r₁ r₂ s₁ s₂ p q = p ∙ sym q
 pub fringewell-value-of-determined : (κs : Lfts 1) (a : Dens κs value-of-kinds.ps) → Determined (value-of-reads.Post κs a)
 fringewell-value-of-determined κs a r₁ r₂ s₁ s₂ p q = p ∙ sym q
 
+-- ---- joining
+
 pub fringewell-join-determined : (κs : Lfts 3) (a : Dens κs join-kinds.ps) → DeterminedBuf (λ s. now (s .1 .1 .0)) (join-reads.Post κs a)
 fringewell-join-determined κs a r₁ r₂ s₁ s₂ p q = both r₁ r₂ (now (s₁ .1 .1 .0)) (now (s₂ .1 .1 .0)) p q
+
+-- ---- documents and arrays
 
 pub fringewell-writer-new-determined : (κs : Lfts 0) (a : Dens κs writer-new-kinds.ps) → Determined (writer-new-reads.Post κs a)
 fringewell-writer-new-determined κs a r₁ r₂ s₁ s₂ p q = ap (λ (w : List ℕ). record { words = w }) (p ∙ sym q)
@@ -153,6 +163,8 @@ fringewell-writer-open-array-determined κs a r₁ r₂ s₁ s₂ p q = both r�
 pub fringewell-writer-close-determined : (κs : Lfts 2) (a : Dens κs writer-close-kinds.ps)
     → DeterminedBuf (λ s. desk (now (s .0)) (now (s .1 .0))) (writer-close-reads.Post κs a)
 fringewell-writer-close-determined κs a r₁ r₂ s₁ s₂ p q = both r₁ r₂ (desk _ _) (desk _ _) p q
+
+-- ---- scalars
 
 pub fringewell-append-double-determined : (κs : Lfts 3) (a : Dens κs append-double-kinds.ps)
     → DeterminedBuf (λ s. desk (now (s .0)) (now (s .1 .0))) (append-double-reads.Post κs a)
@@ -193,6 +205,8 @@ fringewell-append-min-key-determined κs a r₁ r₂ s₁ s₂ p q = both r₁ r
 pub fringewell-append-max-key-determined : (κs : Lfts 3) (a : Dens κs append-max-key-kinds.ps)
     → DeterminedBuf (λ s. desk (now (s .0)) (now (s .1 .0))) (append-max-key-reads.Post κs a)
 fringewell-append-max-key-determined κs a r₁ r₂ s₁ s₂ p q = both r₁ r₂ (desk _ _) (desk _ _) p q
+
+-- ---- texts, data and ids
 
 pub fringewell-append-string-determined : (κs : Lfts 4) (a : Dens κs append-string-kinds.ps)
     → DeterminedBuf (λ s. desk (now (s .0)) (now (s .1 .0))) (append-string-reads.Post κs a)

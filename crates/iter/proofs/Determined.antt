@@ -26,6 +26,8 @@ use Rattle.iter.proofs.key_at_under.Kinds as key-at-under-kinds
 use Rattle.iter.proofs.key_at.Reads as key-at-reads
 use Rattle.iter.proofs.key_at.Kinds as key-at-kinds
 
+-- ---- sizes
+
 abbrev pub unsaidElement : paper.Element → Element
 unsaidElement e = record { place = e .place; tag = e .tag; key = unsaidPart (e .key); value = unsaidPart (e .value) }
 
@@ -44,6 +46,8 @@ sizes-again place (sizes.Refused number p) = refl
 
 pub sizes-at-determined : (κs : Lfts 1) (a : Dens κs sizes-at-kinds.ps) → Determined (sizes-at-reads.Post κs a)
 sizes-at-determined κs a r₁ r₂ s₁ s₂ p q = injective-by (saidSizes _) unsaidSizes (sizes-again _) r₁ r₂ (p ∙ sym q)
+
+-- ---- steps
 
 -- an answer and the cursor behind it
 abbrev Stepped : Type 0
@@ -72,6 +76,8 @@ next-under-determined κs a r₁ r₂ s₁ s₂ p q =
 pub next-determined : (κs : Lfts 1) (a : Dens κs next-kinds.ps) → Determined (next-reads.Post κs a)
 next-determined κs a r₁ r₂ s₁ s₂ p q =
     injective-by stepped unstepped again r₁ r₂ (both (p .0 ∙ sym (q .0)) (p .1 ∙ sym (q .1)))
+
+-- ---- keys
 
 pub key-at-under-determined : (κs : Lfts 1) (a : Dens κs key-at-under-kinds.ps) → DeterminedPart now (key-at-under-reads.Post κs a)
 key-at-under-determined κs a r₁ r₂ s₁ s₂ p q = p ∙ sym q

@@ -15,6 +15,8 @@ use Rattle.laws.proofs.AnswerLaws.{never}
 use Rattle.laws.proofs.Common.{split}
 use Rattle.laws.proofs.StepLaws.{admitted-says, step-admits, step-yields}
 
+-- ---- what a step answers, by its offset
+
 -- where a step may begin
 abbrev pub begins : List ℕ → ℕ → Bool
 begins s offset = leb 4 offset && leb offset (terminator s)
@@ -73,6 +75,8 @@ module _ (limit : Limit) (s : List ℕ) (m : ℕ) (a : admitted s ≡ gives m) w
   refused-place offset n p q =
       at-place (unless (begins s offset) 4 (cond (eqb offset (terminator s)) (gives end) (yieldingUnder limit s offset))) offset n p
       (rw a at q)
+
+-- ---- where the next step begins
 
 pub ended-at : (limit : Limit) (s : List ℕ) (offset : ℕ) → stepUnder limit s (cursor offset false) ≡ gives end → offset ≡ terminator s
 ended-at limit s offset e = step-ends limit s _ (step-admits _ s (cursor offset false) end e) offset .0 e

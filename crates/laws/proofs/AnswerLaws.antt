@@ -10,6 +10,8 @@ use borrow.Author.Tests.{eqb-true}
 use Rattle.bson.specs.Answer.{Answer, gives, refuses, then, unless, at}
 use Rattle.laws.proofs.Common.{split, both-hold, rest-part}
 
+-- ---- answers that give
+
 pub never : {A P : Type 0} {n p : ℕ} {a : A} → refuses n p ≡ gives a → P
 never e = let z : _≡_ {A = ℕ} 0 1 = cc in let w : ⊥ = omega arith in absurd w
 
@@ -39,6 +41,8 @@ pub then-same : {A B : Type 0} (x : Answer A) (f g : A → Answer B) → ((a : A
 then-same (gives a) f g h = h a refl
 then-same (refuses n p) f g h = refl
 
+-- ---- what a call answers
+
 -- what a call answers, by the case that it turned out to be
 pub answered : {E A : Type 0} (said : E → Answer A) {r x : E} {a : Answer A} → said r ≡ a → r ≡ x → a ≡ said x
 answered said e q = sym e ∙ ap said q
@@ -49,6 +53,8 @@ pub rest-answered : {E A : Type 0} (said : E → Answer A) (f : List ℕ → Ans
 rest-answered said f v a e q = ap f (sym (rest-part v a)) ∙ answered said e q
 
 -- An answer that refuses by none but these numbers, and how that goes from the tests to the whole.
+
+-- ---- the numbers that an answer may refuse by
 
 abbrev pub oneOf : List ℕ → ℕ → Bool
 oneOf [] n = false

@@ -12,6 +12,8 @@ use borrow.Author.Tests.{eq-eqb, ne-eqb, eqb-true}
 use Rattle.bson.specs.Bytes.{Part, part, bytes, trim, same}
 use Rattle.laws.proofs.Common.{split}
 
+-- ---- equal texts
+
 pub same-length : (a b : List ℕ) → (length a ≡ length b → ⊥) → same a b ≡ false
 same-length [] [] h = absurd (h refl)
 same-length [] (y ∷ b) h = refl
@@ -40,6 +42,8 @@ module _ (a b : List ℕ) (i : ℕ) (p : i < length a) (q : i < length b) where
 
 pub same-end : (a b : List ℕ) (i : ℕ) → length a ≤ i → length b ≤ i → same (drop i a) (drop i b) ≡ true
 same-end a b i p q = rw (drop-of-length-le a p, drop-of-length-le b q)
+
+-- ---- parts
 
 pub bytes-length : (s : List ℕ) (p : Part) → p .offset + p .size ≤ length s → length (bytes s p) ≡ p .size
 unfolding bytes

@@ -20,6 +20,8 @@ use Rattle.laws.proofs.StepLaws.{iterate-eq, Each, iterate-each}
 use Rattle.bson.specs.Cstring.{Limit}
 use Rattle.laws.proofs.OpenLaws.{value-opens, opens-shorter}
 
+-- ---- one value
+
 module _ (strict : Bool) (s : List ℕ) (l : Level) (position : ℕ) (e : Element) where
   -- what a visit that gives says: the key passed, the value reads, and it is not too deep
   pub record Visited (o : Opening) : Type 0 where
@@ -40,6 +42,8 @@ module _ (strict : Bool) (s : List ℕ) (l : Level) (position : ℕ) (e : Elemen
   pub visit-gives : (o : Opening) → Visited o → visit strict s l position e ≡ gives o
   unfolding visit
   visit-gives o r = rw (r .key, r .reads, le-leb (l .depth) 200 (r .shallow), r .is)
+
+-- ---- the fuel of the walk
 
 -- walks that agree on shorter lists
 module _ (strict : Bool) (s : List ℕ) (w x : Walk) (h : (v : List ℕ) (k : Level) → length v < length s → w v k ≡ x v k) where
@@ -100,6 +104,8 @@ module _ (limit : Limit) (strict : Bool) (s : List ℕ) (l : Level) (position of
       ≡ (then (opened strict (walkUnder limit strict) s l position e) λ n. then
       (walkFrom limit strict s l (suc position) (past e)) λ m. gives (n + m))
   walk-onward e y = walked ∙ rw y
+
+-- ---- no more values than bytes
 
 -- a document has no more values than bytes
 module _ (strict : Bool) (s : List ℕ) (w : Walk)

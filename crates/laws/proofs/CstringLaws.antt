@@ -16,6 +16,8 @@ use Rattle.bson.specs.Cstring.{before, isZero, firstZero, Limit, unlimited, mos
 use Rattle.laws.proofs.AnswerLaws.{gives-injective, unless-gives}
 use Rattle.laws.proofs.Common.{split}
 
+-- ---- the first byte that passes
+
 pub before-here : (test : ℕ → Bool) (v : List ℕ) (i : ℕ) → i < length v → test (getD v i 0) ≡ true → before test (drop i v) ≡ 0
 before-here test v i h e = rw (drop-cons v i 0, e)
 
@@ -46,6 +48,8 @@ before-passes test (b ∷ v) h =
     (λ t. rw (t, t))
     (λ t. let k : suc (before test v) < suc (length v) = rw t at h in rw t (before-passes test v (le-of-suc-le-suc k)))
 
+-- ---- a zero-ended text
+
 -- the zero is in the list too
 pub cstring-below : (v : List ℕ) (k : ℕ) → cstring v ≡ gives k → k < length v
 unfolding zeroText cstringUnder
@@ -73,6 +77,8 @@ cstring-splits v k e =
     let z : getD v (firstZero v) 0 ≡ 0 = eqb-true _ _ (before-passes isZero v l) in
     let i : firstZero v ≡ k = gives-injective e2 in
     rw (← i, add-one) (split-at v (firstZero v) 0 l ∙ ap (λ (b : ℕ). take (firstZero v) v ++ (b ∷ drop (suc (firstZero v)) v)) z)
+
+-- ---- a text whose zero a limit lets be seen
 
 -- before the first that passes there are as many in a list's first n, where they are that many or fewer
 pub before-cut : (test : ℕ → Bool) (n : ℕ) (v : List ℕ) → before test (take n v) < length (take n v)
@@ -126,6 +132,8 @@ cstring-kept m v k e i =
     let z : firstZero v ≡ k = gives-injective e2 in
     let (c, l) = before-kept isZero (m + 1) v (omega arith) (ltb-true (firstZero v) (length v) t) in
     cstring-seen m v (rw c (lt-ltb _ _ l)) ∙ e
+
+-- ---- under a limit
 
 -- a text that is given under a limit is given without one
 pub cstring-under : (limit : Limit) (v : List ℕ) (k : ℕ) → cstringUnder limit v ≡ gives k → cstring v ≡ gives k

@@ -16,6 +16,8 @@ use Rattle.bson.specs.Decimal.{digits, widthFor, width, decimal}
 use Rattle.laws.proofs.Common.{split}
 use Rattle.laws.proofs.Utf8Laws.{next-ascii}
 
+-- ---- how many digits a number has
+
 tenth : (n : ℕ) → 10 ≤ n → n / 10 < n
 tenth n h = div-lt-self (omega arith) (omega arith)
 
@@ -72,6 +74,8 @@ width-holds n =
 pub width-small : (n : ℕ) → n < 2 ^ 64 → width n ≤ 20
 width-small n h = width-within 19 n (omega arith)
 
+-- ---- the digits
+
 pub length-digits : (k n : ℕ) → length (digits k n) ≡ k
 unfolding digits
 length-digits zero n = refl
@@ -102,6 +106,8 @@ digits-lead (suc k) d r h g =
 
 -- the digits name the number
 
+-- ---- the number that digits name
+
 -- the number that digits name behind another's
 abbrev namedFrom : ℕ → List ℕ → ℕ
 namedFrom n [] = n
@@ -126,6 +132,8 @@ unfolding decimal
 decimal-named n = digits-named (width n) n (width-holds n)
 
 -- the digits are a valid key
+
+-- ---- digits are a valid key
 
 -- ASCII bytes and no zero
 abbrev Plain : List ℕ → Type 0

@@ -17,6 +17,8 @@ use Rattle.laws.proofs.Common.{split}
 use Rattle.laws.proofs.CstringLaws.{cstring-below, cstring-under, cstring-most, cstring-kept}
 use Rattle.laws.proofs.AnswerLaws.{never, gives-injective, unless-gives, then-gives}
 
+-- ---- length fields and fixed sizes
+
 pub length-field-is : (present least : ℕ) (v : List ℕ) (n : ℕ) → lengthField present least v ≡ gives n
     → (present ≤ length v) × (least ≤ n) × (n < 2147483648) × (le32 v ≡ n)
 unfolding lengthField
@@ -48,6 +50,8 @@ pub in-front-refuses : {A : Type 0} (size : ℕ) (number : List ℕ → A) (v : 
 unfolding fits
 in-front-refuses size number v n p e =
     split (leb size (length v)) (λ t. never (sym (rw t at e))) (λ t. leb-false size (length v) t)
+
+-- ---- strings, documents, pointers, binaries and scopes
 
 pub zero-ended-is : (size : ℕ) (v : List ℕ) (n : ℕ) → zeroEnded size v ≡ gives n → (n ≡ size) × (n ≤ length v) × (getD v (n - 1) 0 ≡ 0)
 unfolding zeroEnded
@@ -108,6 +112,8 @@ scope-is v n e =
     let f = fits-is m v n h in
     (omega (arith, length-field-is 4 0 v m q), f .1)
 
+-- ---- regexes
+
 -- the options begin behind the pattern's zero, and their zero is in the list too
 pub pattern-options-fit : (v : List ℕ) (r : Part × Part) → patternOptions v ≡ gives r
     → (r .0 .offset ≡ 0) × (r .1 .offset ≡ r .0 .size + 1) × (r .1 .offset + r .1 .size < length v)
@@ -136,6 +142,8 @@ regex-fits v n e =
     let f = pattern-options-fit v r q in
     omega (arith, gives-injective h)
 
+-- ---- any type
+
 pub framed-fits : (z : Sized) (v : List ℕ) (n : ℕ) → framed z v ≡ gives n → n ≤ length v
 unfolding framedUnder
 framed-fits (fixed m) v n e = fits-is m v n e .1
@@ -149,6 +157,8 @@ framed-fits asScope v n e = scope-is v n e .1
 pub value-size-fits : (tag : ℕ) (v : List ℕ) (n : ℕ) → valueSize tag v ≡ gives n → n ≤ length v
 unfolding valueSizeUnder
 value-size-fits tag v n e = let (z, q, h) = then-gives (sizedOf tag) _ e in framed-fits z v n h
+
+-- ---- under a limit
 
 -- a size that is given under a limit is given without one
 pub pattern-options-under : (limit : Limit) (v : List ℕ) (r : Part × Part) → patternOptionsUnder limit v ≡ gives r

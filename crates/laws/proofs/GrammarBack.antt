@@ -26,6 +26,8 @@ use Rattle.laws.proofs.StepLaws.{admitted-says}
 
 -- bytes of bytes
 
+-- ---- lists of bytes
+
 pub drop-are : (n : ℕ) (s : List ℕ) → AreBytes s → AreBytes (drop n s)
 drop-are n s b i = rw (getD-drop n s i 0) (b (n + i))
 
@@ -41,6 +43,8 @@ unfolding bytes
 bytes-are s p b = take-are (p .size) (drop (p .offset) s) (drop-are (p .offset) s b)
 
 -- numbers
+
+-- ---- numbers of four and eight bytes
 
 pub le32-below : (v : List ℕ) → AreBytes v → le32 v < 0x1_0000_0000
 unfolding le32
@@ -98,6 +102,8 @@ bytes64-back v b h =
     let k : 4 ≤ length (drop 4 v) = omega (arith, length-drop 4 v) in
     rw (digits-low low high, over, bytes32-back v b (omega arith), bytes32-back (drop 4 v) (drop-are 4 v b) k) (sym (take-add 4 4 v))
 
+-- ---- signed numbers, and timestamps
+
 pub unsigned-signed : (half n : ℕ) → n < half + half → unsigned half (signed half n) ≡ n
 unfolding signed unsigned
 unsigned-signed half n h = split (ltb n half) (λ t. rw t) (λ t. rw t (omega (arith, ltb-false n half t)))
@@ -133,6 +139,8 @@ timestamp-back w b l =
 
 -- texts and documents
 
+-- ---- texts and pointers
+
 -- a text without its length and its zero
 text-back : (v : List ℕ) (n : ℕ) → 5 ≤ n → n ≤ length v → getD v (n - 1) 0 ≡ 0
     → bytes v (part 4 (n - 5)) ++ (0 ∷ []) ≡ take (n - 4) (drop 4 v)
@@ -163,6 +171,8 @@ pointer-back v n b e =
     let k : n - 17 ≡ n - 12 - 5 = omega arith in
     rw (k, string-back v (n - 12) b (q ∙ ap gives j), ← take-take (n - 12) n v (omega arith)) (take-append-drop (n - 12) (take n v))
 
+-- ---- binaries
+
 -- a binary: its length, its subtype, its data
 binary-front : (w : List ℕ) → AreBytes w → length w ≡ 5 + le32 w → w ≡ bytes32 (length (drop 5 w)) ++ (getD w 4 0 ∷ drop 5 w)
 binary-front w b l =
@@ -187,6 +197,8 @@ old-binary-back w b l t h e =
     ≡ d = rw (bytes32-back d (drop-are 5 w b) (omega arith), ← drop-drop 4 5 w) (take-append-drop 4 d) in
     rw (i, j, k, ← eqb-true (getD w 4 0) 2 t) (binary-front w b l)
 
+-- ---- documents and scopes
+
 -- a code with its scope: the length of all of it, the code as a string, and what is behind
 pub scope-back : (w : List ℕ) (n : ℕ) → AreBytes w → le32 w ≡ length w → stringSize (drop 4 w) ≡ gives n
     → w ≡ scopeBytes (bytes w (part 8 (n - 5))) (drop (4 + n) w)
@@ -204,6 +216,8 @@ document-back s m b a list e =
     let (least, _, _, size, _) = admitted-says s m a in
     let l : length list + 5 ≡ le32 s = omega (arith, length-drop 4 s, ap length e, length-append list (0 ∷ [])) in
     rw (l, bytes32-back s b (omega arith), ← e) (take-append-drop 4 s)
+
+-- ---- regexes
 
 -- a pattern and its options: both valid, each with its zero, and what is behind them
 pub record Regex (v : List ℕ) (n : ℕ) : Type 0 where

@@ -23,6 +23,8 @@ use Rattle.laws.proofs.Common.{split, both-hold}
 
 -- numbers
 
+-- ---- numbers of four and eight bytes
+
 pub length-bytes32 : (n : ℕ) → length (bytes32 n) ≡ 4
 unfolding bytes32
 length-bytes32 n = refl
@@ -58,6 +60,8 @@ le64-bytes n rest h =
       le32-bytes (n / 0x1_0000_0000) rest (omega arith),
     ) (omega arith)
 
+-- ---- signed numbers
+
 pub signed-unsigned : (half : ℕ) (z : ℤ) → Ranged half z → signed half (unsigned half z) ≡ z
 unfolding signed unsigned
 signed-unsigned half (pos n) h = rw (lt-ltb n half h)
@@ -81,6 +85,8 @@ i64-bytes z rest h = rw (le64-bytes _ rest (unsigned-below 0x8000_0000_0000_0000
 
 -- a zero-ended text
 
+-- ---- zero-ended texts
+
 first-zero : (key rest : List ℕ) → firstZero key ≡ length key → firstZero (key ++ (0 ∷ rest)) ≡ length key
 first-zero [] rest e = refl
 first-zero (b ∷ key) rest e =
@@ -102,6 +108,8 @@ pattern-options-of p o rest h k =
     rw (cstring-of p (o ++ (0 ∷ rest)) h, drop-append-add p (0 ∷ (o ++ (0 ∷ rest))) 1, cstring-of o rest k)
 
 -- tests that hold
+
+-- ---- what is framed by a length
 
 module _ (v : List ℕ) where
   length-field-of : (present least n : ℕ) → le32 v ≡ n → present ≤ length v → least ≤ n → n < 2147483648
@@ -145,6 +153,8 @@ module _ (n : ℕ) (b rest : List ℕ) where
       let f = length-field-of counted present least n (le32-bytes n _ (omega arith)) (omega arith) l h in
       rw f (zero-ended-of counted (whole n) (omega arith) (zero-behind (whole n) e) ∙ ap gives e)
 
+-- ---- lengths
+
 pub length-string : (t : List ℕ) → length (stringBytes t) ≡ length t + 5
 unfolding stringBytes
 length-string t = length-counted (length t + 1) t [] ∙ add-zero (length t + 5)
@@ -156,6 +166,8 @@ length-document list = length-counted (length list + 5) list [] ∙ add-zero (le
 pub length-element : (tag : ℕ) (key value : List ℕ) → length (elementBytes tag key value) ≡ 2 + length key + length value
 unfolding elementBytes
 length-element tag key value = simp length-append (omega arith)
+
+-- ---- strings and documents
 
 pub string-of : (t rest : List ℕ) → length t + 1 < 2147483648 → stringSize (stringBytes t ++ rest) ≡ gives (length (stringBytes t))
 unfolding stringSize stringBytes
@@ -186,6 +198,8 @@ document-admitted list h =
     )
 
 -- a string and twelve bytes, a length, the subtype and the data, two texts that end in a zero
+
+-- ---- pointers, binaries, scopes and regexes
 
 pub pointer-of : (t id rest : List ℕ) → length id ≡ 12 → length t + 1 < 2147483648
     → pointerSize (stringBytes t ++ id ++ rest) ≡ gives (length (stringBytes t ++ id))

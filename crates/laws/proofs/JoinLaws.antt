@@ -26,6 +26,8 @@ use Rattle.laws.proofs.OutputLaws.{take-put, drop-put, texts-fit}
 use Rattle.laws.proofs.GrammarLaws.{length-document}
 use Rattle.laws.proofs.WriterLaws.{room-within}
 
+-- ---- lengths and bodies
+
 -- what passes the check is admitted, so it has a length and a terminator
 pub check-admits : (strict : Bool) (s : List ℕ) (n : ℕ) → check strict s ≡ gives n → 5 ≤ length s
 unfolding checkUnder
@@ -68,6 +70,8 @@ module _ (first second : List ℕ) (a : 5 ≤ length first) (b : 5 ≤ length se
       let long : length (Texts.joined texts) ≡ size = ap length same ∙ length-both ∙ sym e in
       ap (λ (x : Output). x .buffer) (q ∙ texts-fit (output buffer 0) texts (omega arith)) ∙ ap (put buffer 0) same
 
+-- ---- the tests, one after the other
+
 never-wrote : {P : Type 0} {number place which n : ℕ} → refused number place which ≡ wrote n → P
 never-wrote e = let z : _≡_ {A = ℕ} 0 1 = cc in let w : ⊥ = omega arith in absurd w
 
@@ -79,6 +83,8 @@ passed : {A : Type 0} (which : ℕ) (x : Answer A) (buffer : List ℕ) (f : A �
     → (a : A) × (x ≡ gives a) × (passing which x buffer f ≡ f a)
 passed which (gives a) buffer f n e = (a, refl, refl)
 passed which (refuses k p) buffer f n e = never-wrote e
+
+-- ---- a refused join
 
 abbrev Unchanged : List ℕ → Joined → Type 0
 Unchanged buffer j = (number place which : ℕ) → j .outcome ≡ refused number place which → j .left ≡ buffer
@@ -100,6 +106,8 @@ module _ (first second buffer : List ℕ) where
   pub join-unchanged : Unchanged buffer done
   unfolding join
   join-unchanged = still 1 (check false first) buffer _ (λ _. still 2 (check false second) buffer _ (λ _. put-unchanged))
+
+  -- ---- a join that writes
 
   -- where none refuses: both pass, the document of both bodies is written, and "bytes behind it stay"
   pub record Wrote (n : ℕ) : Type 0 where

@@ -21,6 +21,8 @@ use Rattle.bson.specs.Check.{Walk, visit, inside, opened, along, walkFor, walkU
 use Rattle.laws.proofs.Common.{split}
 use Rattle.laws.proofs.CstringLaws.{cut-short, cstring-seen, cstring-unseen, cstring-beyond}
 
+-- ---- an answer turned into 22
+
 -- the first answer is the second or, where P allows it, 22
 pub data Turns (P : Type 0) {A : Type 0} : Answer A → Answer A → Type 0 where
   stays : {x : Answer A} → Turns P x x
@@ -48,6 +50,8 @@ module _ {P : Type 0} {A : Type 0} where
   at-turns p stays = stays
   at-turns p (turns h) = turns h
 
+-- ---- an iteration broken off by 22
+
 -- the first iteration is the second or, where P allows it, breaks off by 22 after elements of it
 data Breaks (P : Type 0) : Iteration → Iteration → Type 0 where
   goes-on : {i : Iteration} → Breaks P i i
@@ -68,6 +72,8 @@ first-turns : {P : Type 0} (s key : List ℕ) {i j : Iteration} → Breaks P i j
 first-turns s key goes-on = stays
 first-turns s key (further e h) = cond-turns (same key (bytes s (e .key))) (found s e) (first-turns s key h)
 first-turns s key (breaks p) = turns p
+
+-- ---- walks of two limits
 
 -- a part has no more bytes than the slice
 part-shorter : (s : List ℕ) (p : Part) → length (bytes s p) ≤ length s
@@ -95,6 +101,8 @@ module _ {P : Type 0} (bound : ℕ) (w x : Walk) (h : (v : List ℕ) (k : Level)
   along-turns s l k position (further e b) =
       then-turns (opened-turns s l position e k) (λ n. then-turns (along-turns s l k (suc position) b) (λ m. stays))
   along-turns s l k position (breaks p) = turns p
+
+-- ---- two limits, from framing to the check
 
 -- two limits under which zero-ended texts are answered alike, of all slices up to a length
 module _ (P : Type 0) (a b : Limit) (bound : ℕ)
@@ -177,12 +185,16 @@ module _ (P : Type 0) (a b : Limit) (bound : ℕ)
   unfolding checkUnder walkUnder
   check-turns strict s i = walk-turns (suc (length s)) strict s outermost i
 
+-- ---- a limit beside none
+
 -- a limit beside none: a text is answered as it was, or 22
 pub text-turns : (m : ℕ) (v : List ℕ) → Turns Unit (cstringUnder (most m) v) (cstring v)
 text-turns m v =
     split (ltb (firstZero (take (m + 1) v)) (length (take (m + 1) v)))
     (λ t. rw (cstring-seen m v t) stays)
     (λ t. rw (cstring-unseen m v t) (turns tt))
+
+-- ---- limits that the slice is not longer than
 
 -- where nothing allows 22, nothing turns
 alike : {A : Type 0} {x y : Answer A} → Turns ⊥ x y → x ≡ y

@@ -45,6 +45,8 @@ module _ (limit : Limit) (s key : List ℕ) (offset : ℕ) where
     pub search-onward : same key (bytes s (e .key)) ≡ false → searchFrom limit s key offset ≡ searchFrom limit s key (past e)
     search-onward k = searched ∙ rw (y, k)
 
+-- ---- what is found
+
 -- a typed getter gives the number in the framed bytes of what the typed lookup finds
 pub typed-is : {A : Type 0} (number : List ℕ → Answer A) (s key : List ℕ) (tag : ℕ) (f : Found) (v : List ℕ) (x : Answer A)
     → getWith s key tag ≡ gives f → v ≡ bytes s (f .element .value) → number v ≡ x → at (f .element .place) x ≡ typed number s key tag
@@ -89,6 +91,8 @@ module _ (limit : Limit) (s key : List ℕ) (f : Found) where
         let y = step-yields limit s _ (f .element) (get-finds .steps) in
         (y .inside, parts-inside s _ (f .element) y (f .value) (get-finds .reads))
 
+-- ---- with a tag
+
 -- what a typed lookup finds was read, and has the tag
 pub get-with-says : (limit : Limit) (s key : List ℕ) (tag : ℕ) (f : Found) → getWithUnder limit s key tag ≡ gives f
     → (getUnder limit s key ≡ gives f) × (f .element .tag ≡ tag)
@@ -98,6 +102,8 @@ get-with-says limit s key tag f x =
     let (t, h1) = unless-gives (eqb (g .element .tag) tag) 17 _ (at-gives (g .element .place) _ h) in
     let i : g ≡ f = gives-injective h1 in
     (q ∙ ap gives i, sym (ap (λ (d : Found). d .element .tag) i) ∙ eqb-true _ _ t)
+
+-- ---- the typed getters of numbers
 
 -- where the typed lookup finds, the typed getter gives the number of the value found
 pub typed-reads : {A : Type 0} (number : List ℕ → Answer A) (holds : A → Leaf) (type : ElementType) (s key : List ℕ) (tag : ℕ) (f : Found)

@@ -28,6 +28,8 @@ use Tags.{String, JavaScriptCode, Symbol, DbPointer, EmbeddedDocument, Array, Bi
 use Value.{Leaf, Value, leaf, document, array, codeWithScope, asLeaf, bool, timestampOf, text, binaryValue, scopeValue, content, valueIn}
 use Value.{valueOf}
 
+-- ---- values by what they open
+
 -- a claim that every leaf meets holds of a value where it holds of what the value opens
 module _ (P : Value → Type 0) (leafy : (x : Leaf) → P (leaf x)) (v : Value) where
   leaf-case : {x : Leaf} → gives (leaf x) ≡ gives v → P v
@@ -71,6 +73,8 @@ module _ (P : Value → Type 0) (leafy : (x : Leaf) → P (leaf x)) (v : Value) 
     content-case RegularExpression f e = let (r, q, g) = then-gives (patternOptions (bytes s w)) _ e in leaf-case g
     content-case JavaScriptCodeWithScope f e = of-scope e
 
+-- ---- a code with scope
+
 -- what a code with scope that is read says: where its scope starts, that its code is framed and UTF-8, that the scope
 -- is admitted, and where both lie
 pub record Scoped (b : List ℕ) (w : Part) (v : Value) : Type 0 where
@@ -105,6 +109,8 @@ scope-says b w v e =
       is = ap (λ (x : ℕ). codeWithScope (part (w .offset + 8) x) (trim (4 + n) 0 w)) (sym m) ∙ gives-injective e5;
     }
 
+-- ---- a document that framing gives
+
 -- the four bytes in front are those of the whole
 pub le32-take : (n : ℕ) (v : List ℕ) → 4 ≤ n → le32 (take n v) ≡ le32 v
 unfolding le32
@@ -132,6 +138,8 @@ framed-admitted v n e =
       getD-take n v (n - 1) 0 i,
       d .4,
     )
+
+-- ---- what a value opens
 
 -- a document inside a value: it lies in the value's part, and is admitted with just its size
 pub record Opens (s : List ℕ) (whole inner : Part) : Type 0 where

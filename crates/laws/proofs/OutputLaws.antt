@@ -15,6 +15,8 @@ use borrow.Author.Tests.{le-leb, leb-true}
 use Rattle.laws.proofs.Common.{split}
 use Rattle.bson.specs.Output.{Output, output, put, putText, putTexts, joined}
 
+-- ---- a run of bytes put
+
 pub length-put : (buffer : List ℕ) (at : ℕ) (s : List ℕ) → at + length s ≤ length buffer → length (put buffer at s) ≡ length buffer
 unfolding put
 length-put buffer at s h = simp (length-append, length-take, length-drop) (omega arith)
@@ -52,6 +54,8 @@ module _ (buffer : List ℕ) (at : ℕ) (s : List ℕ) (fits : at + length s ≤
   drop-put n h =
       further (at + length s) n (put buffer at s) buffer h
       (ap (drop (at + length s)) front-put ∙ drop-at (take at buffer ++ s) (drop (at + length s) buffer) (at + length s) front-length)
+
+-- ---- two runs
 
 -- one run after the other is one run
 pub put-put : (buffer : List ℕ) (at : ℕ) (s t : List ℕ) → at + (length s + length t) ≤ length buffer
@@ -95,6 +99,8 @@ put-over a b c s h =
 
 -- a text that fits, and one that does not
 
+-- ---- texts that fit
+
 module _ (buffer : List ℕ) (used : ℕ) (text : List ℕ) where
   pub text-fits : used + length text ≤ length buffer
       → putText (output buffer used) text ≡ output (put buffer used text) (used + length text)
@@ -127,6 +133,8 @@ texts-fit o (t ∷ ts) h =
 pub texts-append : (o : Output) (texts more : List (List ℕ)) → putTexts o (texts ++ more) ≡ putTexts (putTexts o texts) more
 texts-append o [] more = refl
 texts-append o (t ∷ ts) more = texts-append (putText o t) ts more
+
+-- ---- the end of the buffer, and the bytes behind
 
 -- what is put never passes the end of the buffer, whose length stays
 abbrev Within : ℕ → Output → Type 0
@@ -162,6 +170,8 @@ texts-behind o (t ∷ ts) =
     let x = text-behind o t in
     let y = texts-behind (putText o t) ts in
     (y .0 ∙ further (putText o t .used) (putTexts (putText o t) ts .used) (putText o t .buffer) (o .buffer) (y .1) (x .0), omega arith)
+
+-- ---- behind what a call left
 
 -- a text behind what a call left
 pub then-put : {o p q : Output} (text : List ℕ) → p ≡ o → q ≡ putText p text → q ≡ putText o text

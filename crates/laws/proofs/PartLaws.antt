@@ -35,6 +35,8 @@ PartEnds n p = p .offset + p .size ≤ n
 abbrev pub BothEnd : ℕ → Value → Type 0
 BothEnd n v = PartEnds n (partsOf v .0) × PartEnds n (partsOf v .1)
 
+-- ---- by the type of the value
+
 module _ (n : ℕ) (v : Value) where
   -- of a value that is known, both parts
   known : (x : Value) → gives x ≡ gives v → BothEnd n x → BothEnd n v
@@ -101,6 +103,8 @@ module _ (s : List ℕ) (w : Part) (v : Value) (inside : w .offset + w .size ≤
   content-parts Binary f e = old-or-new (omega (arith, binary-is _ (w .size) f)) e
   content-parts RegularExpression f e = of-regex e
   content-parts JavaScriptCodeWithScope f e = of-scope e
+
+-- ---- of a value that is read
 
 -- both parts of a value that is read from a yielded element end in the slice
 pub parts-inside : (s : List ℕ) (c : Cursor) (e : Element) → FramedAt s c e → (v : Value) → valueOf s e ≡ gives v → BothEnd (length s) v

@@ -37,6 +37,8 @@ use Tags.{ElementType, Boolean, Int32, Double, Int64, DateTime, Timestamp, Objec
 use Tags.{String, JavaScriptCode, Symbol, DbPointer, EmbeddedDocument, Array, Binary, RegularExpression, JavaScriptCodeWithScope}
 use Tags.{Sized, fixed, asString, asPointer, asDocument, asBinary, asRegex, asScope, Row, tags, find, rowOf, typeOf}
 
+-- ---- admission
+
 -- "admission tests 1, 2, 3"
 abbrev pub admissions : List ℕ
 admissions = 1 ∷ 2 ∷ 3 ∷ []
@@ -51,6 +53,8 @@ admitted-in s =
 pub empty-in : (s : List ℕ) → RefusesIn admissions (isEmpty s)
 unfolding isEmpty
 empty-in s = then-in (admitted-in s) (λ n q. given)
+
+-- ---- framing by length fields, and the tag
 
 -- by length fields
 abbrev lengths : List ℕ
@@ -80,6 +84,8 @@ find-in (r ∷ rs) tag = cond-in (eqb (r .tag) tag) given (find-in rs tag)
 row-in : (tag : ℕ) → RefusesIn (7 ∷ []) (rowOf tag)
 unfolding rowOf
 row-in tag = find-in tags tag
+
+-- ---- what a value holds
 
 -- what a value holds, of any type but a regex
 abbrev contents : List ℕ
@@ -160,6 +166,8 @@ yielded-in s c e y =
     let (r, u, h) = then-gives (patternOptions v) _ f in
     rw (regex-alone v (e .value .size) f, u) given
 
+-- ---- the lists of numbers, under a limit and under none
+
 module _ (limit : Limit) where
   -- "key, [..] 6; tag, 7; framing": one list for all their tests, though a single test has fewer; "22 in the
   -- place of 5 whenever a limit is set"
@@ -206,6 +214,8 @@ reads-typed (most m) = refl
 missing-in : (limit : Limit) → oneOf (framings limit) (missing limit) ≡ true
 missing-in unlimited = refl
 missing-in (most m) = refl
+
+-- ---- steps and readings
 
 module _ (limit : Limit) where
   cstring-in : (v : List ℕ) → RefusesIn (framings limit) (cstringUnder limit v)
@@ -272,6 +282,8 @@ module _ (limit : Limit) where
       then-in (weaken (reads-typed limit) (at-place-in s place)) λ e q.
       then-in (weaken refl (value-at-in s place e q)) (λ v r. of-tag-in e tag v)
 
+  -- ---- iteration and lookup
+
   -- an iteration that is broken by no number but a step's
   abbrev BreaksIn : Iteration → Type 0
   BreaksIn ended = Unit
@@ -313,9 +325,13 @@ module _ (limit : Limit) where
   unfolding getWithUnder
   get-with-in s key tag = then-in (weaken (reads-typed limit) (get-in s key)) (λ f q. of-tag-in (f .element) tag f)
 
+-- ---- a value of any element
+
 -- a value of any element, one that no step gave too
 pub value-in : (s : List ℕ) (e : Element) → RefusesIn (values unlimited) (valueOf s e)
 value-in s e = value-by (values unlimited) refl s e (λ q. weaken refl (pattern-in unlimited (bytes s (e .value))))
+
+-- ---- the whole check
 
 -- "the strict check also asks" by 19
 abbrev pub checks : Limit → Bool → List ℕ
@@ -383,6 +399,8 @@ module _ (limit : Limit) (strict : Bool) where
   unfolding checkUnder walkUnder
   check-in s = walk-for (suc (length s)) s outermost (omega arith)
 
+-- ---- joining
+
 -- joining: damage of the first or the second document, or 14 of neither, at 0
 abbrev pub JoinsIn : Outcome → Type 0
 JoinsIn (wrote n) = Unit
@@ -406,6 +424,8 @@ join-in first second buffer =
     passing-in 1 (check false first) buffer _ refl (check-in unlimited false first) λ a.
     passing-in 2 (check false second) buffer _ refl (check-in unlimited false second) λ b.
     room-in (leb size (room (length buffer))) size buffer _ tt
+
+-- ---- no refusal by 0
 
 -- a refusal by no 0, so that 0 can tell that there is none
 abbrev pub NoZero : {A : Type 0} → Answer A → Type 0

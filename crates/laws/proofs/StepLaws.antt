@@ -23,6 +23,8 @@ use Rattle.laws.proofs.BytesLaws.{same-eq}
 use Rattle.laws.proofs.Common.{split, both-hold}
 use Rattle.laws.proofs.CstringLaws.{before-least, cstring-below, cstring-valid, cstring-under}
 
+-- ---- admission
+
 pub admitted-says : (s : List ℕ) (n : ℕ) → admitted s ≡ gives n
     → (5 ≤ length s) × (n ≡ length s) × (getD s (terminator s) 0 ≡ 0) × (le32 s ≡ length s) × (length s < 2147483648)
 unfolding admitted
@@ -125,6 +127,8 @@ module _ (s : List ℕ) (c : Cursor) (e : Element) where
       rw (← y .tagged, ← y .key-at, ← y .value-at) (y .value-is) in
       rw (y .placed, y .admits, low, high, going, y .key-is, value, ← y .tagged, ← y .key-at, ← y .value-at, ← y .placed)
 
+-- ---- its key
+
 -- the key of a yielded element is a valid one, so another matches nothing
 pub key-valid : (s : List ℕ) (c : Cursor) (e : Element) → FramedAt s c e → validCstr (bytes s (e .key)) ≡ true
 unfolding bytes
@@ -151,6 +155,8 @@ key-refused s m offset n p a h e =
     split (utf8 (take (firstZero v) v))
     (λ t. never (sym (rw (lt-ltb _ _ l, t) at e)))
     (λ t. let q : refuses 6 0 ≡ refuses n p = rw (lt-ltb _ _ l, t) at e in cc)
+
+-- ---- iteration, from step to step
 
 onward-same : (x : Answer Step) (f g : ℕ → Iteration) → ((e : Element) → x ≡ gives (yield e) → f (past e) ≡ g (past e))
     → onward x f ≡ onward x g

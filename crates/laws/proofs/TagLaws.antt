@@ -13,6 +13,8 @@ use Tags.{ElementType, Boolean, Int32, Double, Int64, DateTime, Timestamp, Objec
 use Tags.{String, JavaScriptCode, Symbol, DbPointer, EmbeddedDocument, Array, Binary, RegularExpression, JavaScriptCodeWithScope}
 use Tags.{Sized, fixed, asString, asPointer, asDocument, asBinary, asRegex, asScope, Row, tags, find, rowOf, typeOf, sizedOf}
 
+-- ---- the size and the tag of each type
+
 abbrev pub sizeFor : ElementType → Sized
 sizeFor Boolean = fixed 1
 sizeFor Int32 = fixed 4
@@ -59,6 +61,8 @@ tagFor Binary = 0x05
 tagFor RegularExpression = 0x0B
 tagFor JavaScriptCodeWithScope = 0x0F
 
+-- ---- sizes
+
 -- what holds of every row of a table holds of the row found
 abbrev Every : (Row → Type 0) → List Row → Type 0
 Every P [] = record {}
@@ -89,6 +93,8 @@ type-sized tag t e =
 pub sized-by : (tag : ℕ) (t : ElementType) (v : List ℕ) → typeOf tag ≡ gives t → valueSize tag v ≡ framed (sizeFor t) v
 unfolding valueSizeUnder
 sized-by tag t v e = then-from _ _ (type-sized tag t e)
+
+-- ---- tags
 
 -- the row found has the tag looked for
 found-tag : (rs : List Row) (tag : ℕ) (r : Row) → find rs tag ≡ gives r → r .tag ≡ tag

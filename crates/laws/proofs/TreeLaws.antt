@@ -12,6 +12,8 @@ use Rattle.laws.proofs.GrammarLaws.{length-document, length-element}
 
 -- elements behind others
 
+-- ---- elements behind elements
+
 pub behind-none : (t : Elements) → behind t none ≡ t
 behind-none none = refl
 behind-none (leaf key v rest) = ap (leaf key v) (behind-none rest)
@@ -38,6 +40,8 @@ list-behind (nest n key inner rest) more =
     ap (λ (l : List ℕ). e ++ l) (list-behind rest more) ∙ sym (append-assoc e (listBytes rest) (listBytes more))
 
 -- the bytes of elements
+
+-- ---- bytes and their length
 
 pub leaf-bytes : (key : List ℕ) (v : Item) → listBytes (leaf key v none) ≡ elementBytes (row v .tag) key (row v .value)
 unfolding listBytes
@@ -80,6 +84,8 @@ count-within (nest n key inner rest) =
     omega (arith, length-append e (listBytes rest), length-element (nestTag n) key value, count-within rest)
 
 -- what holds of two lists of elements holds of the one behind the other
+
+-- ---- what makes a tree good
 
 pub ordered-behind : (t more : Elements) → InOrder t → InOrder more → InOrder (behind t more)
 ordered-behind none more g h = h

@@ -22,6 +22,8 @@ use Rattle.laws.proofs.GrammarLaws.{length-bytes32, length-element}
 use Rattle.laws.proofs.OutputLaws.{length-put, drop-put}
 use Rattle.laws.proofs.WriterWords.{grown-words, grown-used, pushed-used, popped-used}
 
+-- ---- room
+
 -- the room is in the buffer, and a length is an i32
 pub room-within : (n : ℕ) → (room n ≤ n) × (room n ≤ 2147483647)
 unfolding room
@@ -36,6 +38,8 @@ unfolding room
 room-small n h = rw (le-leb n 2147483647 h)
 
 -- what a state that is possible says
+
+-- ---- possible states
 
 stand-says : (w : State) (i end : ℕ) → stand w (suc i) end ≡ true
     → (start w i + 4 ≤ end) × (passes (kindHolds (used w)) (kindOf (mark w i)) ≡ true) × (stand w i (start w i) ≡ true)
@@ -67,6 +71,8 @@ possible-gives w room a b c = rw (le-leb _ _ a, le-leb _ _ b, c)
 pub top-used : (w : State) → depth w ≡ 0 → stand w (depth w) (used w) ≡ true → used w ≡ 0
 unfolding stand
 top-used w z e = let t : stand w 0 (used w) ≡ true = rw z at e in eqb-true (used w) 0 t
+
+-- ---- the innermost document, and the sizes
 
 -- the innermost document of a kind
 pub record Innermost (d : Desk) (kind : Kind) : Type 0 where
@@ -139,7 +145,8 @@ module _ (w : State) (space more : ℕ) (key : List ℕ) (good : Bool) (size : �
   unfolding roomFor
   room-gives r = rw (r .inner, le-leb _ _ (r .low), r .keyed, r .valued, le-leb _ _ (r .fits))
 
--- an element more
+-- ---- an element more
+
 abbrev pub taken : Desk → Kind → List ℕ → Desk
 taken d kind new = desk (grown kind (d .state) (length new)) (put (d .buffer) (used (d .state)) new)
 
@@ -183,6 +190,8 @@ module _ (d : Desk) (more tag : ℕ) (key : List ℕ) (good : Bool) (value : Lis
       }) in
       rw r (ap gives (sym (a .is)))
 
+-- ---- a document or an array opened
+
 -- an accepted opening: its element, and one document more
 pub record Opened (d : Desk) (n : Embedded) (key : List ℕ) (e : Desk) : Type 0 where
   pub between : Desk
@@ -199,6 +208,8 @@ module _ (d : Desk) (n : Embedded) (key : List ℕ) (e : Desk) where
   pub opened-gives : Opened d n key e → openedIn d n key ≡ gives e
   unfolding openedIn
   opened-gives o = rw (appended-gives d 1 (nestTag (embedded n)) key true (bytes32 5) (o .between) (o .element)) (ap gives (sym (o .is)))
+
+-- ---- the top opened
 
 -- an accepted opening of the top
 pub record Topped (d e : Desk) : Type 0 where
@@ -219,6 +230,8 @@ module _ (d e : Desk) where
   pub topped-gives : Topped d e → openedTop d ≡ gives e
   unfolding openedTop
   topped-gives t = rw (t .can, eq-eqb _ _ (t .nothing), le-leb _ _ (t .fits)) (ap gives (sym (t .is)))
+
+-- ---- the innermost closed
 
 -- the zero, and the true length
 abbrev pub sealed : Desk → List ℕ
@@ -243,6 +256,8 @@ module _ (d e : Desk) where
   pub closed-gives : Closed d e → closed d ≡ gives e
   unfolding closed
   closed-gives c = rw (c .inner) (ap gives (sym (c .is)))
+
+-- ---- the bytes behind
 
 -- "a call that writes keeps all bytes behind its output"
 pub record Behind (d e : Desk) : Type 0 where

@@ -16,6 +16,8 @@ use Rattle.bson.specs.Writer.{leaves, performed}
 use Rattle.laws.proofs.AnswerLaws.{oneOf, RefusesIn, given, then-in, unless-in, cond-in, refused-in}
 use Rattle.laws.proofs.Common.{split}
 
+-- ---- which numbers a call may give
+
 module _ {ms : List ℕ} (e18 : oneOf ms 18 ≡ true) where
   kind-in : (m : ℕ) → RefusesIn ms (kindOf m)
   unfolding kindOf
@@ -73,6 +75,8 @@ close-refused d n p e =
     (λ t. let z : oneOf (18 ∷ []) n ≡ true = refused-in {ms = 18 ∷ []} (closed-in refl d) e in
     absurd (true≢false (sym (rw t at z))))
 
+-- ---- 0 tells an accepted call
+
 -- so 0 tells an accepted call
 pub accepted-from : (d : Desk) (x : Answer Desk) → ((n p : ℕ) → x ≡ refuses n p → oneOf (13 ∷ 14 ∷ 15 ∷ 18 ∷ []) n ≡ true)
     → leaves d x .number ≡ 0 → x ≡ gives (leaves d x .left)
@@ -85,6 +89,8 @@ unfolding performed
 accepted c state buffer h = accepted-from (desk state buffer) (answer c (desk state buffer)) (refused-number c (desk state buffer)) h
 
 -- "a refused call changes no byte of a lent buffer and no writer state"
+
+-- ---- a refused call
 
 leaves-unchanged : (d : Desk) (x : Answer Desk) → (leaves d x .number ≡ 0 → ⊥) → leaves d x .left ≡ d
 leaves-unchanged d (gives e) h = absurd (h refl)

@@ -12,6 +12,8 @@ use Rattle.bson.specs.Answer.{gives}
 use Rattle.bson.specs.Writer.{State, fresh, used, depth, startAt, start, markAt, mark, Kind, inDocument, inArray, kindOf, kindHolds, grown}
 use Rattle.bson.specs.Writer.{pushed, popped}
 
+-- ---- words and kinds
+
 -- one element more, in an array of so many
 abbrev pub onceMore : Kind → Kind
 onceMore inDocument = inDocument
@@ -34,6 +36,8 @@ pub there : (w : State) (i : ℕ) → 0 < getD w i 0 → i < length w
 there [] i h = absurd (omega arith)
 there (x ∷ w) zero h = omega arith
 there (x ∷ w) (suc i) h = omega (arith, there w i h)
+
+-- ---- an element more
 
 module _ (w : State) where
   -- all but the used bytes and the innermost's mark stay
@@ -72,6 +76,8 @@ module _ (w : State) (h : length w ≡ 406) where
       ap kindOf (getD-set-same (set w 0 (used w + n)) (markAt (depth w - 1)) (count + 1) 0 (simp (length-set) (omega arith)))
       ∙ kind-array (count + 1) (omega (arith, leb-true count (used w) c))
 
+  -- ---- a document more
+
   -- two more words, and the depth
   pub pushed-words : (m : ℕ) → length (pushed w m) ≡ 406
   unfolding pushed
@@ -105,6 +111,8 @@ module _ (w : State) (h : length w ≡ 406) where
       getD-set-other (set (set w (startAt (depth w)) (used w - 4)) (markAt (depth w)) m) 1 (markAt (depth w)) (depth w + 1) 0
       (λ e. omega arith)
       ∙ getD-set-same (set w (startAt (depth w)) (used w - 4)) (markAt (depth w)) m 0 (simp (length-set) (omega arith))
+
+  -- ---- a document fewer
 
   pub popped-words : length (popped w) ≡ 406
   popped-words = simp (length-set) h

@@ -21,6 +21,8 @@ use Rattle.laws.proofs.WriterRefusals.{appended-refused, accepted-from}
 use Rattle.appending.specs.Element.{appending}
 use Rattle.nesting.specs.Opened.{openedAs, pushedAt}
 
+-- ---- behind the element of an opening
+
 -- behind an element that was appended, or refused
 module _ (w : State) (buffer : List ℕ) (tag mark : ℕ) (key : List ℕ) (n : ℕ) (v : State) (exit : List ℕ)
     (e : written n v exit ≡ appending w buffer 1 tag key true (bytes32 5)) where
@@ -61,6 +63,8 @@ module _ (w : State) (buffer : List ℕ) (tag mark : ℕ) (key : List ℕ) (n : 
       let d : depth v ≡ depth w = ap (λ (d : Desk). depth (d .state)) (a .is) ∙ grown-depth w (a .kind) (length new) in
       omega (arith, a .low, s .some)
 
+-- ---- the top
+
 -- the first document starts at 0
 four-before : (w : State) → used (set w 0 4) - 4 ≡ 0
 four-before [] = refl
@@ -95,6 +99,8 @@ module _ (w : State) (buffer : List ℕ) (m : ℕ) (em : m ≡ room (length buff
         let b : exit ≡ put buffer 0 (bytes32 5) = ap (λ (o : Output). o .buffer)
         (eo ∙ text-fits buffer 0 (bytes32 5) (omega (arith, length-bytes32 5))) in
         rw (← can, t, ← ed, eq-eqb d 0 z, ← em, le-leb 5 m h, ev, b, four-before w)
+
+-- ---- closing
 
 -- and the innermost closed
 module _ (w : State) (buffer : List ℕ) (m : ℕ) (em : m ≡ room (length buffer)) where

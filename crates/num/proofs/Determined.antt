@@ -31,6 +31,8 @@ use Rattle.num.proofs.bool_from_slice.Kinds as bool-from-slice-kinds
 use Rattle.num.proofs.timestamp_from_slice.Reads as timestamp-from-slice-reads
 use Rattle.num.proofs.timestamp_from_slice.Kinds as timestamp-from-slice-kinds
 
+-- ---- whole numbers
+
 uint32-again : (r : Uint32) → unsaid uint32.Is uint32.Refused (saidUint32 r) ≡ r
 uint32-again (uint32.Is x) = refl
 uint32-again (uint32.Refused k) = refl
@@ -54,6 +56,8 @@ int64-again (int64.Refused k) = refl
 pub i64-from-slice-determined : (κs : Lfts 1) (a : Dens κs i64-from-slice-kinds.ps) → Determined (i64-from-slice-reads.Post κs a)
 i64-from-slice-determined κs a r₁ r₂ s₁ s₂ p q =
     injective-by saidInt64 (unsaid int64.Is int64.Refused) int64-again r₁ r₂ (p ∙ sym q)
+
+-- ---- doubles, booleans and timestamps
 
 double-again : (r : Double) → unsaid double.Bits double.Refused (saidDouble r) ≡ r
 double-again (double.Bits x) = refl

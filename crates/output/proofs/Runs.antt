@@ -9,6 +9,8 @@ use lib.Seq.{sets, sets-eq, take-add, drop-cons, drop-drop, length-take-le}
 use Rattle.bson.specs.Output.{put}
 use Rattle.laws.proofs.OutputLaws.{put-put, put-nil}
 
+-- ---- a few stores
+
 stored : (values buffer : List ℕ) (at : ℕ) → at + length values ≤ length buffer → sets buffer at values ≡ put buffer at values
 unfolding put
 stored values buffer at h = sets-eq values buffer at h ∙ append-assoc (take at buffer) values (drop (at + length values) buffer)
@@ -52,6 +54,8 @@ module _ (text : List ℕ) where
         let d : from + 2 + 1 ≡ from + 3 = omega arith in
         rw (a, b, c, next-two 2 from (from + 2) refl (omega arith), next-two 0 (from + 2) (from + 4) (omega arith) (omega arith), d)
         (stored (byte from ∷ byte (from + 1) ∷ byte (from + 2) ∷ byte (from + 3) ∷ []) buffer at (omega arith))
+
+-- ---- a text in two runs
 
 -- the first n bytes, and then others
 module _ (buffer : List ℕ) (at : ℕ) (text : List ℕ) (n : ℕ) (few : n ≤ length text) (fits : at + length text ≤ length buffer) where

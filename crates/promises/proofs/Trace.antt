@@ -20,6 +20,8 @@ use Rattle.doc_writer.specs.declared.Written.{Written}
 use Rattle.promises.specs.Turn as turns
 use Rattle.promises.specs.Turn.{Lent, Turn, session, afterTurn, Trace, done, turn, WriterTraceReadsBack, ClosedReadsBack}
 
+-- ---- one promise
+
 -- each promise says that what is left is what the definition performs
 pub turn-performs : {out : Lent} {w : DocWriter} {r : Written} {c : Call} {left : List ℕ} → Turn out w r c left
     → written (r .number) (r .writer .words) left ≡ performed c (w .words) (now out)
@@ -56,6 +58,8 @@ next-ends c s (gives d) r = refl
 next-ends c s (refuses zero p) r = absurd (true≢false (sym (r zero p refl)))
 next-ends c s (refuses (suc n) p) r = refl
 
+-- ---- one turn
+
 -- behind the used bytes a buffer's are left
 abbrev Kept : List ℕ → Desk → Type 0
 Kept buffer d = drop (used (d .state)) (d .buffer) ≡ drop (used (d .state)) buffer
@@ -85,6 +89,8 @@ module _ {out : Lent} {w : DocWriter} {r : Written} {c : Call} {left : List ℕ}
   turn-behind h =
       let d = desk (w .words) (now out) in
       subst (λ (x : writer.Written). Kept (now out) (x .left)) (sym (turn-performs t)) (leaves-kept c d (answer c d) h refl)
+
+-- ---- a trace
 
 -- a trace is a run of the definition
 pub trace-runs : {end : Session} {calls : List Call} {s : Session} → Trace end calls s → run calls s ≡ end

@@ -39,6 +39,8 @@ use Rattle.reader.specs.declared.Reader.{Reader}
 use Rattle.reader.proofs.Reader as T
 use Rattle.reader.proofs.Reader.Laws as T′
 
+-- ---- the reader's type and values
+
 -- the reader's type, over a signature's lifetimes, and its machine value
 abbrev pub Held : Lfts 1 → RattleType
 Held κs = T.the-row (namedLft 1 0 tt κs)
@@ -63,6 +65,8 @@ Lent κ s = ShrSlice (named 0) κ u8 .own s (view s ∷ [])
 
 abbrev pub Own : Lft → Reader → Fml
 Own κ d = Held (κ, tt) .own d (T′.lowered d ∷ [])
+
+-- ---- what its fields own
 
 -- its type as declared, with its laws, and what its fields own, apart
 abbrev D : Lft → Declared
@@ -100,6 +104,8 @@ module _ {M : Type 1} (𝓤 : URA M) (H : Heap 𝓤) (A : Atoms 𝓤) (W : Given
   -- its machine value is of its MIR's type, and so is each field's
   pub typed : Is (Held (κ, tt)) d (T′.lowered d ∷ []) → Holds (hasTy (T′.mir (named 0)) (T′.lowered d)) × WT (T′.lowered d)
   typed is = LL.lawful (D κ) (L κ) 𝓤 H A W .typed d _ is .0
+
+-- ---- calls
 
 -- with no `requires`, what a function has on entry is all that it asks
 pub asked : {M : Type 1} (𝓤 : URA M) (P : SProp 𝓤) → ent 𝓤 P (sep 𝓤 P (emp 𝓤))

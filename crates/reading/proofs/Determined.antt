@@ -56,6 +56,8 @@ use Rattle.reading.proofs.parts.scope_code.Kinds as scope-code-kinds
 use Rattle.reading.proofs.parts.scope.Reads as scope-reads
 use Rattle.reading.proofs.parts.scope.Kinds as scope-kinds
 
+-- ---- readings
+
 abbrev unsaid : Answer paper.Value → Reading
 unsaid = unsaidAt (λ v. Is (unsaidValue v)) Refused
 
@@ -81,6 +83,8 @@ read-with-under-determined κs a r₁ r₂ s₁ s₂ p q = said-injective r₁ r
 pub read-with-determined : (κs : Lfts 1) (a : Dens κs read-with-kinds.ps) → Determined (read-with-reads.Post κs a)
 read-with-determined κs a r₁ r₂ s₁ s₂ p q = said-injective r₁ r₂ (p ∙ sym q)
 
+-- ---- parts of a value
+
 abbrev unsaidParts : bytes.Part × bytes.Part → TwoParts
 unsaidParts p = record { 0 = unsaidPart (p .0); 1 = unsaidPart (p .1) }
 
@@ -95,6 +99,8 @@ part-at-under-determined κs a r₁ r₂ s₁ s₂ p q = p ∙ sym q
 
 pub part-at-determined : (κs : Lfts 1) (a : Dens κs part-at-kinds.ps) → DeterminedPart now (part-at-reads.Post κs a)
 part-at-determined κs a r₁ r₂ s₁ s₂ p q = p ∙ sym q
+
+-- ---- parts at a place
 
 pub string-determined : (κs : Lfts 1) (a : Dens κs string-kinds.ps) → DeterminedPart now (string-reads.Post κs a)
 string-determined κs a r₁ r₂ s₁ s₂ p q = p ∙ sym q

@@ -12,6 +12,8 @@ use native.Mathlib.Omega.{arith}
 use Rattle.laws.proofs.Common.{both-left, both-right, below-at}
 use Rattle.tags.specs.Rows.{rowNumber}
 
+-- ---- the constant of the code
+
 -- the constant of the code, and the class of a row; in class 0 the row itself is the size
 unfoldable pub rows : List ℕ
 rows = 8 ∷ 32 ∷ 96 ∷ 96 ∷ 128 ∷ 0 ∷ 12 ∷ 1 ∷ 8 ∷ 0 ∷ 160 ∷ 64 ∷ 32 ∷ 32 ∷ 192 ∷ 4 ∷ 8 ∷ 8 ∷ 16 ∷ 0 ∷ 0 ∷ []
@@ -21,6 +23,8 @@ size i = getD rows i 0
 
 abbrev class : ℕ → ℕ
 class i = size i / 32
+
+-- ---- classes and rows
 
 -- what the code makes of a class k and a size z, and the test that it is this
 abbrev pub byClass : ℕ → ℕ → Sized
@@ -69,6 +73,8 @@ is-row (refuses n p) false k z t = absurd t
 
 abbrev right : ℕ → Bool
 right tag = let i = rowNumber tag in isRow (sizedOf tag) (leb 21 i) (class i) (size i)
+
+-- ---- the rule of the table
 
 -- the rule of the table, at the row i of a tag
 module _ (tag i : ℕ) (small : tag < 256) (row : i ≡ rowNumber tag) where

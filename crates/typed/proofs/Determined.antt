@@ -42,6 +42,8 @@ use Rattle.typed.proofs.get_object_id.Kinds as get-object-id-kinds
 use Rattle.typed.proofs.get_regex.Reads as get-regex-reads
 use Rattle.typed.proofs.get_regex.Kinds as get-regex-kinds
 
+-- ---- numbers
+
 f64-again : (r : F64) → unsaidAt f64.Bits f64.Refused (saidF64 r) ≡ r
 f64-again (f64.Bits x) = refl
 f64-again (f64.Refused number place) = refl
@@ -82,6 +84,8 @@ timestamp-again (timestamp.Refused number place) = refl
 
 pub get-timestamp-determined : (κs : Lfts 2) (a : Dens κs get-timestamp-kinds.ps) → Determined (get-timestamp-reads.Post κs a)
 get-timestamp-determined κs a r₁ r₂ s₁ s₂ p q = injective-by saidTimestamp timestamp-back timestamp-again r₁ r₂ (p ∙ sym q)
+
+-- ---- parts
 
 pub get-str-determined : (κs : Lfts 2) (a : Dens κs get-str-kinds.ps) → DeterminedPart now (get-str-reads.Post κs a)
 get-str-determined κs a r₁ r₂ s₁ s₂ p q = p ∙ sym q

@@ -13,6 +13,8 @@ use Rattle.laws.proofs.Common.{both-left, both-right, beq-eq, below, below-at}
 use Rattle.laws.proofs.Utf8Laws.{leftovers, sameRanges, same-ranges-eq}
 use Rattle.utf8.specs.Moves.{classOf, moveOf}
 
+-- ---- states
+
 -- what is left in each state: a state is six times a number, that of what may be left, and behind all of these no row fits
 abbrev numbered : List (List Range) → ℕ → Left
 numbered [] k = bad
@@ -38,6 +40,8 @@ same-left-eq (left xs) (left ys) t = ap left (same-ranges-eq xs ys t)
 abbrev isState : ℕ → Left → Bool
 isState x l = eqb x (6 * (x / 6)) && (ltb (x / 6) 9 && sameLeft (leftOf (x / 6)) l)
 
+-- ---- the tables, by one computed test
+
 -- the class of b has a number in the table, and the move behind it leaves what the rows leave
 abbrev isRight : List ℕ → List ℕ → ℕ → ℕ → Bool
 isRight c m k b = ltb (classOf c b) 12 && isState (moveOf c m (6 * k) b % 64) (next (leftOf k) b)
@@ -48,6 +52,8 @@ pub record Right (c m : List ℕ) : Type 0 where
 
 table-right : {c m : List ℕ} → Right c m → (k b : ℕ) → k < 9 → b < 256 → T (isRight c m k b)
 table-right {c} {m} t k b h l = below-at (isRight c m k) 256 (below-at (λ k. below (isRight c m k) 256) 9 (rw (t .computed) tt) k h) b l
+
+-- ---- a state and what is left of a row
 
 -- a state stands for what is left of a row
 pub record Runs (state : ℕ) (l : Left) : Type 0 where
@@ -81,6 +87,8 @@ move-runs {c} {m} {x} {l} b t r h =
 runs-whole : {x : ℕ} {l : Left} → Runs x l → eqb (x % 64) 0 ≡ whole l
 runs-whole r =
     rw (r .is, r .leaves) (beq-eq _ _ (below-at (λ k. Bool·beq (eqb (6 * k) 0) (whole (leftOf k))) 9 tt (r .k) (r .few)))
+
+-- ---- the loop
 
 -- the bytes from i on decide, with what is left in the state
 pub record Going (s c m : List ℕ) (state i : ℕ) : Type 0 where

@@ -16,6 +16,8 @@ use Rattle.laws.proofs.Utf8Laws.{leftovers, sameList}
 use Rattle.utf8.specs.Window.{asked, strayBehind, stray}
 use Rattle.utf8.proofs.EveryLaws.{holds, fails, same-bools-eq, among, every-at}
 
+-- ---- what three bytes say
+
 -- what three bytes say: whether one, two or three more are asked for, and whether the nearest is E0, ED, F0 or F4
 abbrev marks : ℕ → ℕ → ℕ → List Bool
 marks p q o = asked p q o ∷ (ltb 0xDF p || ltb 0xEF q) ∷ ltb 0xEF p ∷ eqb p 0xE0 ∷ eqb p 0xED ∷ eqb p 0xF0 ∷ eqb p 0xF4 ∷ []
@@ -40,6 +42,8 @@ pub data After : Left → Bool → ℕ → ℕ → ℕ → Type 0 where
   fell : {p q o : ℕ} → After bad true p q o
   fits : {rs : List Range} {p q o : ℕ} → T (among rs leftovers) → marks p q o ≡ marksLeft rs → After (left rs) false p q o
 
+-- ---- computed, for each byte
+
 -- computed at all that may be left and every byte
 abbrev goes : List Bool → ℕ → Left → Bool
 goes m b bad = strayBy m b
@@ -59,7 +63,8 @@ zeroSame rs = Bool·beq (whole (next (left rs) 0)) (whole (left rs))
 abbrev zeroTells : List Range → Bool
 zeroTells rs = Bool·beq (not (strayBy (marksLeft rs) 0)) (whole (left rs))
 
--- one byte more
+-- ---- one byte more
+
 marked : {m : List Bool} (b p q o : ℕ) → marks p q o ≡ m → stray b p q o ≡ strayBy m b
 unfolding stray
 marked b p q o e = ap (λ (x : List Bool). strayBy x b) e
@@ -86,6 +91,8 @@ zero-tells : {l : Left} {any : Bool} {p q o : ℕ} → After l any p q o → not
 zero-tells fell = refl
 zero-tells {p = p} {q} {o} (fits {rs} k e) =
     rw (marked 0 p q o e) (beq-eq (not (strayBy (marksLeft rs) 0)) (whole (left rs)) (every-at zeroTells leftovers rs tt k))
+
+-- ---- the loop
 
 -- `any` says whether a byte before j was stray, and p, q, o are the last three; zeros stand before s and behind it
 pub record Went (s : List ℕ) (any : Bool) (j p q o : ℕ) : Type 0 where

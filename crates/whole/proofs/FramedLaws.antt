@@ -25,6 +25,8 @@ use Tags.{ElementType, Boolean, Int32, Double, Int64, DateTime, Timestamp, Objec
 use Tags.{String, JavaScriptCode, Symbol, DbPointer, EmbeddedDocument, Array, Binary, RegularExpression, JavaScriptCodeWithScope}
 use Tags.{Sized, fixed, asString, asPointer, asDocument, asBinary, asRegex, asScope, tags, rowOf, typeOf, sizedOf}
 
+-- ---- parts that open nothing
+
 abbrev sizeOf : Sized → ℕ
 sizeOf (fixed n) = n
 sizeOf asString = 0
@@ -110,6 +112,8 @@ module _ (s : List ℕ) (p : Part) (n : ℕ) (one : n ≡ 1 → ⊥) (l : length
   closes Binary z = unfixed (ap isFixed z)
   closes RegularExpression z = unfixed (ap isFixed z)
   closes JavaScriptCodeWithScope z = unfixed (ap isFixed z)
+
+-- ---- what framing has told
 
 module _ (s : List ℕ) (c : Cursor) (e : Element) (y : FramedAt s c e) where
   -- once it is framed, what its type says is read

@@ -25,6 +25,8 @@ use Rattle.visit.specs.Said.{saidOpening, saidVisited}
 use Rattle.visit.specs.declared.Visited.{Visited}
 use Rattle.visit.specs.declared.Visited.the-variants.{Is, Refused}
 
+-- ---- places
+
 unless-at-0 : {A : Type 0} (b : Bool) (k : ℕ) (x : Answer A) (n p : ℕ) → (x ≡ refuses n p → p ≡ 0) → unless b k x ≡ refuses n p → p ≡ 0
 unless-at-0 true k x n p f q = f q
 unless-at-0 false k x n p f q = cc
@@ -52,6 +54,8 @@ pub yields-placed : (limit : Limit) (s : List ℕ) (offset : ℕ) (e : Element) 
     → FramedAt s (cursor (e .place) false) e
 yields-placed limit s offset e x = let y = step-yields limit s _ e x in subst (λ (p : ℕ). FramedAt s (cursor p false) e) (sym (y .placed)) y
 
+-- ---- an opened value
+
 -- an opened value, by what visiting it answers
 module _ (limit : Limit) (strict : Bool) (s : List ℕ) (l : Level) (position : ℕ) (e : Element) where
   pub opened-refused : (n p : ℕ) → visit strict s l position e ≡ refuses n p
@@ -76,6 +80,8 @@ levels-few (document p) isArray levels inner q = let z : 1 ≡ levels = cc in om
 levels-few (array p) isArray levels inner q = let z : 1 ≡ levels = cc in omega arith
 levels-few (codeWithScope x p) isArray levels inner q = let z : 2 ≡ levels = cc in omega arith
 
+-- ---- what is inside
+
 -- where what is inside lies, so that neither its depth nor its places grow out of bounds, and the depth left plus the bytes left fall
 pub record Enters (s : List ℕ) (l : Level) (c : Cursor) (levels : ℕ) (inner : Part) : Type 0 where
   pub ends : inner .offset + inner .size ≤ length s
@@ -91,6 +97,8 @@ enters strict s l position c e y isArray levels inner v =
     let o = value-opens s c e y (r .value) (r .reads) isArray levels inner (r .is) in
     record { ends = omega arith; shorter = omega arith; shallow = r .shallow; few = levels-few (r .value) isArray levels inner (r .is) }
 
+-- ---- what a visit answered
+
 -- what a visit answered, by the case that it turned out to be
 pub visited-is : (p : ℕ) (a : Answer Opening) (r : Visited) (o : declared.Opening) → saidVisited p r ≡ a → r ≡ Is o
     → a ≡ gives (saidOpening o)
@@ -100,6 +108,8 @@ visited-is p a r o e q = answered (saidVisited p) e q
 pub visited-refused : (p : ℕ) (a : Answer Opening) (r : Visited) (n : ℕ) → saidVisited p r ≡ a → r ≡ Refused n → a ≡ refuses n p
 unfolding saidVisited
 visited-refused p a r n e q = answered (saidVisited p) e q
+
+-- ---- what is left of the walk
 
 -- the walk is what is left of it from an offset on, and the values counted before
 abbrev pub LeftFrom : Limit → Bool → List ℕ → Level → ℕ → ℕ → ℕ → Type 0

@@ -24,6 +24,8 @@ use Rattle.theorems.proofs.Check.Spots.{one-element}
 use Rattle.bson.specs.Check.{checkUnder}
 use Rattle.bson.specs.Cstring.{Limit}
 
+-- ---- from one spot to another
+
 module _ (limit : Limit) where
   -- from one spot one comes to another; `Comes` grows at its far end, this at the near one, where a walk begins
   data Leads : Spot → Spot → Type 0 where
@@ -65,6 +67,8 @@ module _ (limit : Limit) where
     cases-lead closed q (inl (inr l)) = absurd l
     cases-lead (opens isArray levels p) q (inl (inr l)) = down v isArray levels p (read-step limit (σ .document) (σ .offset) e y ∙ x) q l
     cases-lead o q (inr l) = on e y l
+
+  -- ---- lists of values by rising place
 
   -- the values at spots of a kind, n of them, listed by rising place
   record Listed (P : Spot → Type 0) (low high n : ℕ) : Type 0 where
@@ -129,7 +133,8 @@ module _ (limit : Limit) where
         size = x .size;
       }
 
-  -- the values from a spot on
+  -- ---- the values from a spot on
+
   abbrev ValuesFrom : Spot → ℕ → Type 0
   ValuesFrom σ n = Listed (Leads σ) (placeOf σ) (σ .level .base + length (σ .document)) n
 
@@ -177,6 +182,8 @@ module _ (limit : Limit) where
   from-accepted (suc f) strict σ n i w =
       from-walked strict σ (λ τ m j. from-accepted f strict τ m (omega arith)) n (walked-says limit strict σ n w)
 
+  -- ---- the count of a passed slice
+
   -- The count of a passed slice is the number of its reachable values.
   pub check-counts : (strict : Bool) (s : List ℕ) (n : ℕ) → checkUnder limit strict s ≡ gives n → Number limit s n
   unfolding checkUnder
@@ -191,6 +198,8 @@ module _ (limit : Limit) where
         );
         size = x .size;
       }
+
+  -- ---- there is one such number
 
   -- what stands in a rising list lies no lower than where it begins
   rising-above : (low high : ℕ) (l : List Spot) (τ : Spot) → Rising low l high → List·Memᴰ τ l → low ≤ placeOf τ

@@ -15,6 +15,8 @@ use Rattle.theorems.proofs.Check.Spots.{one-element}
 use Rattle.laws.proofs.BytesLaws.{same-self}
 use Rattle.bson.specs.Cstring.{Limit}
 
+-- ---- elements that cover an offset
+
 module _ (limit : Limit) where
   -- an iteration does not step inside an element that it yields
   outside : (n : ℕ) (d : List ℕ) (a b : ℕ) (e : Element) → b < n → From limit d a → From limit d b
@@ -63,6 +65,8 @@ module _ (limit : Limit) where
       let j : f .place < e .place → ⊥ = λ l. a .none-before f (b .among) l (b .keyed) in
       one-place d e f (a .among) (b .among) (omega arith)
 
+  -- ---- no element of a key before an offset
+
   -- no element before an offset has the key
   abbrev pub Without : List ℕ → List ℕ → ℕ → Type 0
   Without d key offset = (f : Element) → Among limit d f → f .place < offset → bytes d (f .key) ≡ key → ⊥
@@ -76,6 +80,8 @@ module _ (limit : Limit) where
       let c : Covers d (f .place) e = record { among = a; begins = omega arith; ends = l } in
       let o : e ≡ f = one-covers d (f .place) e f c (record { among = b; begins = omega arith; ends = omega arith }) in
       true≢false (sym (same-self key) ∙ ap (same key) (sym (ap (λ (g : Element). bytes d (g .key)) o ∙ k)) ∙ t)
+
+  -- ---- iteration that comes to the terminator
 
   -- iteration that comes to the terminator does so from the next offset too, and so from each at which it steps
   pub ends-next : (d : List ℕ) (offset : ℕ) (e : Element) → stepUnder limit d (cursor offset false) ≡ gives (yield e) → Ends limit d offset

@@ -26,6 +26,8 @@ use Rattle.laws.proofs.StepLaws.{admitted-says, step-yields, iterate-eq}
 use Rattle.laws.proofs.TagLaws.{sized-by}
 use Rattle.theorems.specs.EveryYield.{Lies, Accounted, extent, AddUp, Overrun}
 
+-- ---- one step
+
 module _ (limit : Limit) (s : List ℕ) (c : Cursor) (e : Element) (q : stepUnder limit s c ≡ gives (yield e)) where
   pub step-lies : Lies s (c .offset) e
   step-lies =
@@ -46,6 +48,8 @@ module _ (limit : Limit) (s : List ℕ) (c : Cursor) (e : Element) (q : stepUnde
       let v = drop (e .value .offset) s in
       let f = sized-by (e .tag) JavaScriptCodeWithScope v (rw t refl) in
       scope-is v (e .value .size) (sym f ∙ step-yields limit s c e q .value-is) .0
+
+-- ---- one element behind the other
 
 -- framing refuses by no 4
 no-four : (limit : Limit) → oneOf (framings limit) 4 ≡ false
@@ -84,6 +88,8 @@ module _ (limit : Limit) (s : List ℕ) (m : ℕ) (a : admitted s ≡ gives m) w
   told-from from (more e rest) (q, l, r) =
       let n = span e .size in
       rw (told-from (from + n) rest r, l .tag) (bytes-join s from n (extent (elements rest)))
+
+  -- ---- refused by 4
 
   framed-four : (offset n p : ℕ) → at offset (yieldingUnder limit s offset) ≡ refuses n p → n ≡ 4 → ⊥
   framed-four offset n p q e =

@@ -31,6 +31,8 @@ one-element x e f p q = cc
 pub end-no-element : (x : Answer Step) (e : Element) → x ≡ gives end → x ≡ gives (yield e) → ⊥
 end-no-element x e p q = let z : _≡_ {A = ℕ} 0 1 = cc in omega arith
 
+-- ---- what is opened at a spot
+
 -- what is opened at a spot lies inside the element there, and is shorter than its document
 pub record Deeper (σ : Spot) (e : Element) (p : Part) : Type 0 where
   pub yields : FramedAt (σ .document) (cursor (σ .offset) false) e
@@ -105,6 +107,8 @@ module _ (limit : Limit) where
     walked-gives n (more e k m y o w) =
         walk-onward limit strict _ _ _ _ e y ∙ then-from _ _ (opened-at-gives e k o) ∙ then-from _ _ w
 
+  -- ---- onward and inward
+
   pub opens-deeper : (σ : Spot) (e : Element) (v : Value) (isArray : Bool) (levels : ℕ) (p : Part) → YieldsAt limit σ e
       → valueOf (σ .document) e ≡ gives v → opening v ≡ opens isArray levels p → Deeper σ e p
   opens-deeper σ e v isArray levels p y x o =
@@ -145,6 +149,8 @@ module _ (limit : Limit) where
       let b : levels′ ≡ levels = cc in
       let c : p′ ≡ p = cc in
       (m, rw (← a, ← b, ← c) w)
+
+  -- ---- every spot that one comes to
 
   -- from an accepted slice every spot that one comes to is accepted
   pub comes-accepted : (strict : Bool) (s : List ℕ) (n : ℕ) → checkUnder limit strict s ≡ gives n → (σ : Spot) → Comes limit s σ

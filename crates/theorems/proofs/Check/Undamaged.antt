@@ -27,6 +27,8 @@ use Rattle.theorems.proofs.Check.FirstOfKey.{among-yields, first-one, W
 use Rattle.bson.specs.Cstring.{Limit}
 use Rattle.bson.specs.Check.{checkUnder}
 
+-- ---- what serves the rest
+
 module _ (limit : Limit) where
   -- an accepted walk steps
   walked-answers : (σ : Spot) (m : ℕ) → Walked limit false σ m
@@ -51,6 +53,8 @@ module _ (limit : Limit) where
   module _ (s : List ℕ) (n : ℕ) (passed : checkUnder limit false s ≡ gives n) where
     step-open : (σ : Spot) → Comes limit s σ → (x : Step) × (stepUnder limit (σ .document) (cursor (σ .offset) false) ≡ gives x)
     step-open σ c = let (m, w) = comes-accepted limit false s n passed σ c in walked-answers σ m (walked-says limit false σ m w)
+
+    -- ---- steps and readings
 
     -- No step from 4 or from where the last one ended is refused, whatever the mark.
     pub step-answers : (σ : Spot) → Comes limit s σ → (mark : Bool)
@@ -146,6 +150,8 @@ module _ (limit : Limit) where
           ap (readAtUnder limit d) (among-yields limit d _ a .placed) ∙ read-step limit (σ .document) (σ .offset) _ (a .yields)
           ∙ get-finds limit d key f q .reads
 
+      -- ---- lookups
+
       -- It is refused as absent and by nothing else.
       pub lookup-refused : (k p : ℕ) → getUnder limit d key ≡ refuses k p → (k ≡ 16) × (p ≡ terminator d)
       lookup-refused k p h = elim lookup-says [ missing m q ↦ (cc, cc) | finds e v f q ↦ never (sym h ∙ q) ]
@@ -165,6 +171,8 @@ module _ (limit : Limit) where
       absent-with : (tag : ℕ) → getUnder limit d key ≡ refuses 16 (terminator d) → getWithUnder limit d key tag ≡ refuses 16 (terminator d)
       unfolding getWithUnder
       absent-with tag q = rw q
+
+      -- ---- lookups with a tag
 
       -- A typed lookup says absent as the plain one does.
       pub typed-absent : (tag : ℕ) → (getWithUnder limit d key tag ≡ refuses 16 (terminator d)) ↔ Absent limit d key

@@ -23,6 +23,8 @@ use Rattle.laws.proofs.OpenLaws.{value-opens, opens-shorter}
 use Rattle.theorems.specs.EveryYield.{Accounted, OfElement, Met}
 use Rattle.theorems.proofs.Check.NoGap.{accounted}
 
+-- ---- refusals by number and offset
+
 -- refused, if at all, as this says of the number and of the offset in a document that begins at a base
 data Refused {A : Type 0} (base : ℕ) (P : ℕ → ℕ → Type 0) : Answer A → Type 0 where
   given : {a : A} → Refused base P (gives a)
@@ -42,6 +44,8 @@ module _ (base : ℕ) (P : ℕ → ℕ → Type 0) where
   at-refused : {A : Type 0} (q : ℕ) (x : Answer A) → ((n : ℕ) → P n q) → Refused base P (at (base + q) x)
   at-refused q (gives a) h = given
   at-refused q (refuses n p) h = there q refl (h n)
+
+-- ---- what the check meets, level by level
 
 abbrev At : Element → ℕ → ℕ → Type 0
 At e n q = OfElement e q
@@ -111,6 +115,8 @@ module _ (limit : Limit) (strict : Bool) where
       let m = met-within s 4 (iterateUnder limit s 4) (omega (arith, admitted-says s n a)) x in
       moved (l .base) (Within s) (l .base) (Met (iterateUnder limit s 4)) (λ k q t. (q, refl, m k q t))
       (along-met s (walkFor limit f strict) (λ v k j u b. walk-met f v k j (omega arith) b) l 0 4 (iterateUnder limit s 4) x)
+
+-- ---- the check
 
 refused-as : {A : Type 0} {n p : ℕ} {x : Answer A} (P : ℕ → ℕ → Type 0) → Refused 0 P x → x ≡ refuses n p → P n p
 refused-as P given e = never (sym e)

@@ -25,6 +25,8 @@ use Rattle.theorems.proofs.Check.Spots.{opens-deeper, Onward, accepted-
 use Rattle.theorems.proofs.Check.FirstOfKey.{ends-next}
 use Rattle.bson.specs.Cstring.{Limit}
 
+-- ---- the keys that a check asks
+
 module _ (limit : Limit) where
   -- the key test of a check holds at every reachable value; the plain check's holds always
   abbrev KeysPass : Bool → List ℕ → Type 0
@@ -34,6 +36,8 @@ module _ (limit : Limit) where
   -- and the strict one's where the keys of arrays are good
   good-keys : (s : List ℕ) → KeysPass true s ↔ GoodKeys limit s
   good-keys s = ((λ k σ x a. let h = k σ x in rw a at h), λ g σ x. split (σ .level .isArray) (λ t. rw t (g σ x t)) (λ t. rw t))
+
+  -- ---- what passes is whole
 
   -- an accepted walk is one of an admitted document, and comes to its terminator
   walked-admitted : (strict : Bool) (σ : Spot) (n : ℕ) → Walked limit strict σ n → admitted (σ .document) ≡ gives (length (σ .document))
@@ -71,6 +75,8 @@ module _ (limit : Limit) where
 
     passed-keys : KeysPass strict s
     passed-keys σ x = reached σ x .1 .opened .visited .key
+
+  -- ---- what is whole passes
 
   -- iteration that comes to the terminator is not refused
   ends-unrefused : (d : List ℕ) (offset m n p : ℕ) → admitted d ≡ gives m → Ends limit d offset
@@ -143,6 +149,8 @@ module _ (limit : Limit) where
     whole-passes =
         let (n, w) = comes-counts (suc (length s)) (start s outermost) first (omega arith) in
         (n, λ strict k. walk-eq limit strict s outermost ∙ w strict k)
+
+  -- ---- plain and strict
 
   -- where one check passes, the other does so too if its keys pass, with the same count
   other-passes : (one other : Bool) (s : List ℕ) (n : ℕ) → checkUnder limit one s ≡ gives n → KeysPass other s

@@ -21,6 +21,8 @@ use Rattle.laws.proofs.AdvanceLaws.{step-inside}
 use Rattle.laws.proofs.GrammarLaws.{length-element, cstring-of}
 use Rattle.theorems.proofs.Grammar.ItemReads.{bytes-here, drop-behind}
 
+-- ---- an element at an offset
+
 -- the element of this tag, key and value at an offset
 abbrev pub elementHere : ℕ → ℕ → List ℕ → List ℕ → Element
 elementHere offset tag key value =
@@ -30,6 +32,8 @@ module _ (s : List ℕ) (offset tag : ℕ) (key value back : List ℕ) (here : d
   here-parts : drop offset s ≡ tag ∷ (key ++ (0 ∷ (value ++ back)))
   unfolding elementBytes
   here-parts = here ∙ ap (λ (l : List ℕ). tag ∷ l) (append-assoc key (0 ∷ value) back)
+
+  -- ---- what a step answers there
 
   -- where it ends in the slice
   pub element-fits : offset + 2 + length key + length value + length back ≡ length s

@@ -15,6 +15,8 @@ use Rattle.theorems.specs.EveryByte.{Role, ofLength, ofTerminator, ofTag
 use Rattle.theorems.proofs.Check.FirstOfKey.{among-yields, Covers, one-covers, ends-high, covers-between}
 use Rattle.bson.specs.Cstring.{unlimited}
 
+-- ---- roles and zones
+
 -- the role of an offset that an element covers: its tag, its key, its zero and its value lie one behind the other
 abbrev roleIn : Element → ℕ → Role
 roleIn e i =
@@ -28,6 +30,8 @@ data Zone (d : List ℕ) (i : ℕ) : Type 0 where
   front : i < 4 → Zone d i
   inner : (e : Element) → Covers unlimited d i e → Zone d i
   back : i ≡ terminator d → Zone d i
+
+-- ---- each zone has a role, and each role a zone
 
 module _ (d : List ℕ) (i : ℕ) where
   -- its role there, which it has
@@ -75,6 +79,8 @@ module _ (d : List ℕ) (i : ℕ) where
   role-zoned (ofValue e) (a, (l, h)) =
       let y = among-yields unlimited d e a in
       covered e _ a (omega arith) (rw (behind-key e (omega arith), le-ltb i (e .value .offset) l))
+
+  -- ---- each offset is in one zone
 
   -- where iteration comes to the terminator, each offset from one at which it steps is covered, or is the terminator
   zone-from : (offset : ℕ) → Ends unlimited d offset → From unlimited d offset → offset ≤ i → i < length d → Zone d i

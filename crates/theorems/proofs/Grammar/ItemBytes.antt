@@ -39,6 +39,8 @@ use Value.{regex}
 use Value.{Leaf, Value, leaf, asLeaf, bool, timestampOf, text, binaryValue, scopeValue, content, valueIn, valueOf}
 use Rattle.bson.specs.Cstring.{unlimited}
 
+-- ---- bytes that are a value's
+
 -- the bytes of a part are a value's, under its tag, and its texts and numbers are in order
 pub record Codes (s : List ℕ) (tag : ℕ) (p : Part) (item : Item) : Type 0 where
   pub tagged : tag ≡ row item .tag
@@ -55,6 +57,8 @@ pub record CodesNest (s : List ℕ) (tag : ℕ) (p : Part) (n : Nest) (inner : P
 abbrev pub CodesOf : List ℕ → ℕ → Part → Holding → Type 0
 CodesOf s tag p (single item) = Codes s tag p item
 CodesOf s tag p (nested n inner) = CodesNest s tag p n inner
+
+-- ---- numbers
 
 -- what a boolean and a timestamp that are read say of their bytes
 bool-back : (w : List ℕ) (x : Bool) → length w ≡ 1 → bool w ≡ gives x → w ≡ cond x 1 0 ∷ []
@@ -134,6 +138,8 @@ module _ (s : List ℕ) (b : AreBytes s) (p : Part) (inside : p .offset + p .siz
 
   -- texts
 
+  -- ---- texts, pointers and regexes
+
   text-is : (t x : Part) → text s t ≡ gives x → (utf8 (bytes s t) ≡ true) × (t ≡ x)
   unfolding text
   text-is t x e = let (u, q) = unless-gives (utf8 (bytes s t)) 6 _ e in (u, gives-injective q)
@@ -183,6 +189,8 @@ module _ (s : List ℕ) (b : AreBytes s) (p : Part) (inside : p .offset + p .siz
 
   -- a length in front
 
+  -- ---- binaries
+
   le32-here : 4 ≤ p .size → le32 (bytes s p) ≡ le32 (drop (p .offset) s)
   unfolding bytes
   le32-here h = le32-take (p .size) (drop (p .offset) s) h
@@ -215,6 +223,8 @@ module _ (s : List ℕ) (b : AreBytes s) (p : Part) (inside : p .offset + p .siz
       split (eqb (getD w 4 0) 2)
       (λ t. let (u, x) = unless-gives (leb 9 (length w) && eqb (le32 (drop 5 w)) (length w - 9)) 12 _ (rw t at e) in of-old-data l t u x)
       (λ t. of-data l t (rw t at e))
+
+  -- ---- every type
 
   of-scope : scopeSize (drop (p .offset) s) ≡ gives (p .size) → scopeValue (bytes s p) p ≡ gives v → CodesOf s 0x0F p (holding s v)
   of-scope f e =

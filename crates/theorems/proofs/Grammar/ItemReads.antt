@@ -30,6 +30,8 @@ use Value.{dbPointer, binary, regex, Leaf, Value, leaf, asLeaf, bool, timestampO
 
 -- where from an offset on a slice has some bytes and others behind them
 
+-- ---- bytes that lie at an offset
+
 module _ (s : List ℕ) (offset : ℕ) (a back : List ℕ) (here : drop offset s ≡ a ++ back) where
   pub bytes-here : (size : ℕ) → size ≡ length a → bytes s (part offset size) ≡ a
   unfolding bytes
@@ -43,6 +45,8 @@ value-by : (s : List ℕ) (tag : ℕ) (t : ElementType) (p : Part) → typeOf ta
     → valueIn s tag p ≡ content s p t
 unfolding valueIn
 value-by s tag t p e inside = rw (le-leb _ _ inside) (then-from _ _ e)
+
+-- ---- bytes that are framed and read
 
 -- bytes of a tag at an offset, with others behind, are framed, and what is read holds this
 pub record Reads (s : List ℕ) (offset tag : ℕ) (value back : List ℕ) (h : Holding) : Type 0 where
@@ -84,6 +88,8 @@ module _ (s : List ℕ) (offset : ℕ) (t rest : List ℕ) (here : drop offset s
   unfolding text
   text-reads size e u = rw (text-here size e, u)
 
+-- ---- values of a fixed size
+
 -- bytes of a tag that read as an item wherever they lie in a slice
 abbrev pub Readable : ℕ → List ℕ → Item → Type 0
 Readable tag value item = (s : List ℕ) (offset : ℕ) (back : List ℕ) → length value < 2147483648 → drop offset s ≡ value ++ back
@@ -103,6 +109,8 @@ of-size tag type n value item tagged z e c s offset back small here inside =
 number-of : {A : Type 0} (n : ℕ) (number : List ℕ → A) (f : A → Leaf) (a : A) (v value : List ℕ) → v ≡ value → length value ≡ n
     → number (value ++ []) ≡ a → asLeaf f (inFront n number v) ≡ gives (leaf (f a))
 number-of n number f a v value e l i = rw (e, in-front-of value n number (omega arith), ← append-nil value, i)
+
+-- ---- texts and pointers
 
 -- a string, a code, a symbol
 of-text : (tag : ℕ) (type : ElementType) (f : Part → Leaf) (g : List ℕ → Item) (t : List ℕ) → typeOf tag ≡ gives type
@@ -131,6 +139,8 @@ of-pointer t id i u s offset back small here inside =
     typed s offset (stringBytes t ++ id) back here inside 0x0C (dbPointer t id) DbPointer refl (pointer-of t id back i (omega arith))
     (dbPointer (part (offset + 4) m) p) (rw (text-reads s offset t (id ++ back) start m e u))
     (rw (text-here s offset t (id ++ back) start m e, ids))
+
+-- ---- binaries
 
 -- a binary: its subtype stands behind the length, and its data behind that
 subtype-of : (n subtype : ℕ) (w : List ℕ) → (getD (bytes32 n ++ (subtype ∷ w)) 4 0 ≡ subtype) × (drop 5 (bytes32 n ++ (subtype ∷ w)) ≡ w)
@@ -182,6 +192,8 @@ of-binary subtype d =
     (λ t. rw (t, eqb-true subtype 2 t) (of-old-data d))
     (λ t. rw t (of-data subtype d t))
 
+-- ---- regexes
+
 -- a pattern lies in front, its options behind its zero
 pub regex-here : (s : List ℕ) (offset : ℕ) (p o back : List ℕ) → drop offset s ≡ p ++ (0 ∷ (o ++ (0 ∷ []))) ++ back
     → (bytes s (part offset (length p)) ≡ p) × (bytes s (part (offset + (length p + 1)) (length o)) ≡ o)
@@ -202,6 +214,8 @@ of-regex p o h k s offset back small here inside =
     (rw (here-bytes s offset value back here inside, pattern-options-of p o [] h k))
     (rw (i, j))
 
+-- ---- booleans and timestamps
+
 bool-of : (b : Bool) → bool (cond b 1 0 ∷ []) ≡ gives b
 unfolding bool fits
 bool-of true = refl
@@ -221,6 +235,8 @@ timestamp-of i t h k =
       ← append-nil (bytes32 t),
       le32-bytes t [] k,
     )
+
+-- ---- every item
 
 -- every item's bytes read as the item
 pub item-reads : (v : Item) → Fitting v → row v .good ≡ true → Readable (row v .tag) (row v .value) v

@@ -22,6 +22,8 @@ use Rattle.laws.proofs.TagLaws.{sizeFor}
 use Rattle.laws.proofs.GrammarLaws.{length-bytes32, length-string, length-document, string-of, document-of, document-admitted, scope-of}
 use Rattle.theorems.proofs.Grammar.ItemReads.{bytes-here, drop-behind, Reads, here-bytes, typed-value, text-here}
 
+-- ---- bytes that are read as a nest
+
 -- bytes at an offset, with others behind, are read as a nest with this document
 pub record ReadsNest (s : List ℕ) (offset : ℕ) (n : Nest) (list back : List ℕ) : Type 0 where
   pub inner : Part
@@ -33,6 +35,8 @@ pub nest-longer : (n : Nest) (d : List ℕ) → length d ≤ length (nestBytes n
 unfolding scopeBytes
 nest-longer (embedded n) d = omega arith
 nest-longer (scope t) d = simp length-append (omega arith)
+
+-- ---- a code with scope
 
 -- a code with scope: the code lies behind the length, the scope behind the code
 module _ (t list : List ℕ) where
@@ -88,6 +92,8 @@ module _ (t list : List ℕ) where
         rest,
         document-admitted list short,
       )
+
+-- ---- documents, arrays and scopes
 
 -- a document or an array, handed back whole
 embedded-reads : (n : Embedded) (type : ElementType) (list s : List ℕ) (offset : ℕ) (back : List ℕ)

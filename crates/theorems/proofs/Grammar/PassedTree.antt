@@ -24,6 +24,8 @@ use Rattle.theorems.proofs.Grammar.ItemBytes.{CodesOf, element-codes}
 use Rattle.theorems.proofs.Grammar.TreePasses.{KeysAsked, openingOf, holding-opens}
 use Rattle.bson.specs.Cstring.{unlimited}
 
+-- ---- a tree from a spot on
+
 -- from a spot on, the document means a tree of n values that a check accepts
 pub record Tree (strict : Bool) (σ : Spot) (n : ℕ) : Type 0 where
   pub tree : Elements
@@ -35,6 +37,8 @@ pub record Tree (strict : Bool) (σ : Spot) (n : ℕ) : Type 0 where
 key-good : (strict : Bool) (l : Level) (position : ℕ) (key : List ℕ) → keyPasses strict l position key ≡ true
     → strict ≡ true → l .isArray ≡ true → goodArrayKey position key ≡ true
 key-good strict l position key h s a = rw (s, a) at h
+
+-- ---- a value in front of a tree
 
 -- an accepted value in front of a tree
 module _ (strict : Bool) (σ : Spot) (are : AreBytes (σ .document)) (e : Element) (y : YieldsAt unlimited σ e) (what : Opening)
@@ -80,6 +84,8 @@ module _ (strict : Bool) (σ : Spot) (are : AreBytes (σ .document)) (e : Elemen
         asked = λ s. (key-good strict (σ .level) (σ .position) keyed-by (v .key) s, (i .asked s, rest .asked s));
         counted = omega (arith, i .counted, rest .counted);
       }
+
+-- ---- a passed slice
 
 tree-walked : (f : ℕ) (strict : Bool) (σ : Spot) (n : ℕ) → AreBytes (σ .document) → bytesLeft σ < f → Walked unlimited strict σ n
     → Tree strict σ n

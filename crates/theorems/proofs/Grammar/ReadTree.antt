@@ -21,6 +21,8 @@ use Rattle.laws.proofs.StepLaws.{admitted-says, step-admits, step-yields, key-v
 use Rattle.laws.proofs.GrammarBack.{bytes-are, document-back}
 use Rattle.theorems.proofs.Grammar.ItemBytes.{CodesOf, element-codes}
 
+-- ---- the bytes of one element
+
 -- the bytes from an offset on are those of a part that begins there, and the rest
 part-front : (s : List ℕ) (p : Part) → drop (p .offset) s ≡ bytes s p ++ drop (p .offset + p .size) s
 unfolding bytes
@@ -49,6 +51,8 @@ pub yields-codes : {s : List ℕ} {offset : ℕ} {key : List ℕ} {tag : ℕ} {h
 yields-codes {s} {offset} {e = e} a y =
     let v = sym (read-step unlimited s offset e (y .steps)) ∙ y .reads in
     subst (CodesOf s (e .tag) (e .value)) (y .holds) (element-codes s a offset e (y .value) (y .steps) v)
+
+-- ---- the bytes of a tree
 
 -- what has a meaning is admitted
 means-admitted : {s : List ℕ} {offset : ℕ} {t : Elements} → MeansFrom s offset t → admitted s ≡ gives (length s)

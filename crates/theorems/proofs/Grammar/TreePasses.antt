@@ -20,6 +20,8 @@ use Rattle.laws.proofs.CheckLaws.{walkFrom, walk-eq, walk-ends}
 use Rattle.theorems.proofs.Check.Spots.{spotWalk, Inner, plain, deep, more, walked-gives}
 use Rattle.bson.specs.Cstring.{unlimited}
 
+-- ---- what a check asks of keys
+
 -- what a check asks of the keys in arrays: the plain one nothing
 abbrev pub KeysAsked : Bool → Bool → ℕ → Elements → Type 0
 KeysAsked strict inArray position t = strict ≡ true → ArrayKeys (λ i key. goodArrayKey i key ≡ true) inArray position t
@@ -32,6 +34,8 @@ key-asked : (strict : Bool) (l : Level) (position : ℕ) (key : List ℕ)
 key-asked strict l position key h =
     split strict (λ s. split (l .isArray) (λ a. rw (s, a) (h s a)) (λ a. rw (s, a))) (λ s. rw s)
 
+-- ---- what a value opens
+
 -- what a value opens, by what it holds
 abbrev pub openingOf : Holding → Opening
 openingOf (single item) = closed
@@ -43,6 +47,8 @@ holding-opens s (leaf v) = refl
 holding-opens s (document p) = refl
 holding-opens s (array p) = refl
 holding-opens s (codeWithScope c p) = refl
+
+-- ---- the walk through a tree
 
 abbrev spot : List ℕ → Level → ℕ → ℕ → Spot
 spot s l position offset = record { document = s; level = l; position = position; offset = offset }

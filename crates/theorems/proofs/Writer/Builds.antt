@@ -27,6 +27,8 @@ use Rattle.theorems.proofs.Writer.CallTaken.{append-taken, nest-taken, 
 
 -- calls that are all answered 0, and the session that they leave
 
+-- ---- sessions of accepted calls
+
 abbrev session : Desk → Building → Session
 session d b = record { left = d; tree = b }
 
@@ -43,6 +45,8 @@ leads-both [] more s t u l m = subst (λ (x : Session). Leads x more u) (sym (l 
 leads-both (c ∷ calls) more s t u l m =
     let r = leads-both calls more (turn c s) t u (record { accepted = l .accepted .1; leaves = l .leaves }) m in
     record { accepted = (l .accepted .0, r .accepted); leaves = r .leaves }
+
+-- ---- the calls of a tree
 
 -- the calls that give the elements of a tree without code with scope
 abbrev callsOf : Elements → List Call
@@ -66,6 +70,8 @@ calls-typed (nest (embedded n) key inner rest) g =
     (typed-both (callsOf inner) (close ∷ []) (calls-typed inner (g .1 .1 .0)) tt)
     (calls-typed rest (g .1 .1 .1))
 calls-typed (nest (scope t) key inner rest) g = calls-typed rest (g .1 .1 .1)
+
+-- ---- calls that lead to open documents
 
 -- calls that lead to open documents, and the buffer is as long as it was
 record Reaches (s : Session) (calls : List Call) (o : Open) (around : List Open) : Type 0 where
@@ -118,6 +124,8 @@ nest-closed : (d : Desk) (o p : Open) (around : List Open) → Holds d (o ∷ p 
 nest-closed d o p around h deep fits =
     let (e, x) = close-taken d o (p ∷ around) h (omega arith) fits in
     reaches-one close _ e _ around (h .words) x refl (close-holds d e o p around h x)
+
+-- ---- the elements of a tree, taken
 
 -- a key that is numbered where it must be is the one that the writer makes
 made-key : (o : Open) (key : List ℕ) → (isArray (embedded (o .nest)) ≡ true → key ≡ decimal (count (o .inside))) → keyFor o key ≡ key
@@ -185,6 +193,8 @@ grows (nest (embedded n) key inner rest) d o around h good plain numbered shallo
     refl (good .1 .1 .1) (plain .1) (numbered .1 .1) (shallow .1 .1) (omega (arith, nest-length n key inner none, none-length))
 
 -- the top opened, and closed again
+
+-- ---- the whole tree
 
 top-opened : (buffer : List ℕ) → 5 ≤ roomOf (desk fresh buffer) → Reaches (sessionStart buffer) (openTop ∷ []) (openOf document [] none) []
 top-opened buffer fits =

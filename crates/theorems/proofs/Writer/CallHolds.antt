@@ -34,6 +34,8 @@ use Rattle.theorems.proofs.Writer.OpenBytes.{shown-length, shown-top}
 
 -- the words
 
+-- ---- open documents and the words of the state
+
 -- those of states that agree so far
 tied-below : (w v : State) (begun : ℕ) (os : List Open) → ((i : ℕ) → i < length os → start v i ≡ start w i)
     → ((i : ℕ) → i < length os → mark v i ≡ mark w i) → Tied w begun os → Tied v begun os
@@ -78,6 +80,8 @@ tied-popped w os words t =
     (λ i l. popped-other w words (markAt i) (omega arith))
     t
 
+-- ---- the innermost
+
 once-more : (n : Embedded) (c : ℕ) → onceMore (kindFor n (c + 0)) ≡ kindFor n (c + 1)
 once-more document c = refl
 once-more array c = ap inArray (omega arith)
@@ -120,6 +124,8 @@ module _ (d : Desk) (o : Open) (around : List Open) (h : Holds d (o ∷ around))
   key-is : (kind : Kind) → innermost (d .state) (roomOf d) ≡ gives kind → (key : List ℕ) → keyIn kind key ≡ keyFor o key
   key-is kind i key = ap (λ (x : Kind). keyIn x key) (kind-is kind i) ∙ key-in (o .nest) (count (o .inside)) key
 
+  -- ---- an element more
+
   -- an element begun in the innermost: its bytes are behind the others', and it is counted
   element-begun : (more tag : ℕ) (key : List ℕ) (good : Bool) (value : List ℕ) (e : Desk) → Appended d more tag key good value e
       → HoldsAll e (o ∷ around) 1 (shown (o ∷ around) ++ elementBytes tag (keyFor o key) value)
@@ -153,6 +159,8 @@ element-counted e o around t one b =
     })
 
 -- the calls
+
+-- ---- appending and opening
 
 pub append-holds : (d e : Desk) (o : Open) (around : List Open) (key : List ℕ) (v : Item) → Holds d (o ∷ around)
     → answer (append key v) d ≡ gives e → Holds e (with o (leaf (keyFor o key) v none) ∷ around)
@@ -205,6 +213,8 @@ top-holds buffer e q =
     })
 
 -- closing: the innermost's bytes are whole, and it is an element begun in the one around it
+
+-- ---- closing
 
 module _ (d : Desk) (o : Open) (around : List Open) (h : Holds d (o ∷ around)) (kind : Kind)
     (i : innermost (d .state) (roomOf d) ≡ gives kind) where
@@ -264,7 +274,8 @@ close-holds d e o p around h q =
     element-counted e p around (nest (embedded (o .nest)) (o .key) (o .inside) none) refl
     (rw (← front-tree o p around) (close-begun d e o (p ∷ around) h q))
 
--- the top, closed
+-- ---- the top, closed
+
 pub record Ended (e : Desk) (t : Elements) : Type 0 where
   pub closed : depth (e .state) ≡ 0
   pub many : used (e .state) ≡ length (treeBytes t)

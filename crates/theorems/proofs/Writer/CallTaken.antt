@@ -23,6 +23,8 @@ use Rattle.theorems.proofs.Writer.CallHolds.{last-is, key-in}
 
 -- no state of open documents is impossible
 
+-- ---- states that stand
+
 kind-holds : (most : ℕ) (n : Embedded) (c : ℕ) → c ≤ most → kindHolds most (kindFor n c) ≡ true
 unfolding kindHolds
 kind-holds most document c h = refl
@@ -47,6 +49,8 @@ module _ (w : State) where
       let l = shown-length o (p ∷ around) in
       tied-stands begun o (p ∷ around) end t h g
       (tied-stand 1 p around (startOf (o ∷ p ∷ around)) (t .1 .1) (omega (arith, start-nested o p around)) (omega arith))
+
+-- ---- an element that is taken
 
 key-passes : (n : Embedded) (c : ℕ) (key : List ℕ) → validCstr key ≡ true → keyPasses (kindFor n c) key ≡ true
 unfolding keyPasses
@@ -90,6 +94,8 @@ module _ (d : Desk) (o : Open) (around : List Open) (h : Holds d (o ∷ around))
           is = refl;
         },
       )
+
+  -- ---- calls that are taken
 
   pub append-taken : (key : List ℕ) (v : Item) → keyFor o key ≡ key → length around ≤ 200 → validCstr key ≡ true → row v .good ≡ true
       → used (d .state) + length (elementBytes (row v .tag) key (row v .value)) + suc (length around) ≤ roomOf d

@@ -11,7 +11,7 @@ use Rattle.laws.proofs.GrammarLaws.{length-bytes32, length-element}
 use Rattle.laws.proofs.TreeLaws.{list-behind, nest-bytes}
 use Rattle.theorems.proofs.Writer.DeskHolds.{shown, startOf}
 
--- the bytes of open documents
+-- ---- the bytes of open documents
 
 pub shown-with : (o : Open) (around : List Open) (t : Elements) → shown (with o t ∷ around) ≡ shown (o ∷ around) ++ listBytes t
 unfolding shown
@@ -32,6 +32,8 @@ shown-opened n key o around =
 element-front : (tag : ℕ) (key value : List ℕ) → elementBytes tag key value ≡ elementBytes tag key [] ++ value
 unfolding elementBytes
 element-front tag key value = ap (λ (l : List ℕ). tag ∷ l) (sym (append-assoc key (0 ∷ []) value))
+
+-- ---- in front of the innermost's length
 
 -- those in front of the innermost's length
 unfoldable pub front : Open → List Open → List ℕ
@@ -54,6 +56,8 @@ unfolding front
 front-tree o p around =
     rw (nest-bytes (o .nest) (o .key) (o .inside), element-front (nestTag (embedded (o .nest))) (o .key) (treeBytes (o .inside)))
     (simp (append-assoc))
+
+-- ---- how many bytes they are
 
 -- how many they are: the innermost's start, its length and its elements
 pub shown-length : (o : Open) (around : List Open) → length (shown (o ∷ around)) ≡ startOf (o ∷ around) + 4 + length (listBytes (o .inside))

@@ -25,6 +25,8 @@ use Rattle.theorems.proofs.Grammar.TreeReads.{tree-means}
 use Rattle.theorems.proofs.Grammar.TreePasses.{plain-asked, means-passes}
 use Rattle.theorems.proofs.Writer.CallHolds.{kind-is, top-holds, append-holds, open-holds, close-holds, close-top}
 
+-- ---- open documents that are good
+
 -- the elements of an open document are a good tree of values this deep
 record Sound (o : Open) (level : ℕ) : Type 0 where
   ordered : InOrder (o .inside)
@@ -60,6 +62,8 @@ sounds-with o [] t s g n h = (s .0, sound-with o 0 t (s .1) g n h)
 sounds-with o (p ∷ around) t s g n h = (s .0, (sound-with o (length (p ∷ around)) t (s .1 .0) g n h, s .1 .1))
 
 -- the key of an accepted element
+
+-- ---- calls keep them so
 
 key-valid : (n : Embedded) (c : ℕ) (key : List ℕ) → keyPasses (kindFor n (c + 0)) key ≡ true
     → validCstr (cond (isArray (embedded n)) (decimal c) key) ≡ true
@@ -107,6 +111,8 @@ close-sounds o p around s =
     (k .numbered, (i .numbered, tt))
     (k .low, (rw add-one (i .shallow), tt))
 
+-- ---- what must be open
+
 -- what must be open: nothing for the top, with nothing used; something for every other call
 abbrev Ready : Call → Desk → Type 0
 Ready openTop d = (depth (d .state) ≡ 0) × (used (d .state) ≡ 0)
@@ -136,6 +142,8 @@ typed-first openTop cs t = (tt, t)
 typed-first close cs t = (tt, t)
 typed-first (append key v) cs t = ((t .0, tt), t .1)
 typed-first (openNest n key) cs t = (tt, t)
+
+-- ---- what a session keeps
 
 -- what a session that began with a buffer keeps
 module _ (buffer : List ℕ) where
@@ -200,6 +208,8 @@ module _ (buffer : List ℕ) where
   kept-stands d unopened k = k
   kept-stands d (building o around) k = k .0 .deep
   kept-stands d (built t) k = k
+
+-- ---- the theorem
 
 -- "what the writer closes [..] reads back as exactly the elements given"
 pub writer-reads-back : WriterReadsBack
