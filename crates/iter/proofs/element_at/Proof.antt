@@ -11,6 +11,7 @@ use Rattle.laws.proofs.Common.{rest-part}
 use Rattle.laws.proofs.CstringLaws.{cstring-inside}
 use Rattle.laws.proofs.AnswerLaws.{answered}
 use Rattle.part.specs.Said.{saidLength}
+use Rattle.cstr.specs.Said.{limitOf}
 use Rattle.iter.specs.Said.{sized}
 use borrow.Author.Needs.{needs}
 use native.Mathlib.Omega.{arith}
@@ -38,47 +39,22 @@ module _ (limit : Limit) (s : List ℕ) (p k : ℕ) (key : cstringUnder limit (r
   valued (refuses n q) e =
       rw (← ap (cstringUnder limit) (rest-part s (p + 1)), key, ← ap (valueSizeUnder limit _) (rest-part s (p + 1 + k + 1)), e)
 
+-- where the call gave a key
+module _ (b : tie.After-key) where
+  abbrev start : tie.Start
+  start = b .before .before .before .before .before
+
+  key-told : cstringUnder (limitOf (start .args .limit)) (rest (start .args .s .now) (start .args .place + 1)) ≡ gives (b .key .given .0 .0)
+  key-told = answered saidLength (b .before .before .read-cstring-with-max-len .ensures) (b .key .given .1)
+
+  key-ends : start .args .place + 1 + b .key .given .0 .0 < length (start .args .s .now)
+  key-ends = key-below _ (start .args .s .now) _ _ key-told
+
 enum-known-number : tie.Need-enum-known-number
 enum-known-number c = c .match .keys1
 
 enum-known-key : tie.Need-enum-known-key
 enum-known-key c = c .match .keys2
-
-add-offset : tie.Need-add-offset
-add-offset c =
-    let b = c .before .before in
-    let a = b .before .before .before .before .before .args in
-    omega (
-      arith,
-      key-below _ (a .s .now) (a .place) _ (answered saidLength (b .before .before .read-cstring-with-max-len .ensures) (b .key .given .1)),
-    )
-
-add-offset-2 : tie.Need-add-offset-2
-add-offset-2 c =
-    let b = c .before .before in
-    let a = b .before .before .before .before .before .args in
-    omega (
-      arith,
-      key-below _ (a .s .now) (a .place) _ (answered saidLength (b .before .before .read-cstring-with-max-len .ensures) (b .key .given .1)),
-    )
-
-sub-value-len : tie.Need-sub-value-len
-sub-value-len c =
-    let b = c .before .before in
-    let a = b .before .before .before .before .before .args in
-    omega (
-      arith,
-      key-below _ (a .s .now) (a .place) _ (answered saidLength (b .before .before .read-cstring-with-max-len .ensures) (b .key .given .1)),
-    )
-
-part-value-len-start : tie.Need-part-value-len-start
-part-value-len-start c =
-    let b = c .before .before in
-    let a = b .before .before .before .before .before .args in
-    omega (
-      arith,
-      key-below _ (a .s .now) (a .place) _ (answered saidLength (b .before .before .read-cstring-with-max-len .ensures) (b .key .given .1)),
-    )
 
 enum-known-number-2 : tie.Need-enum-known-number-2
 enum-known-number-2 c = c .match2 .keys1
@@ -93,14 +69,12 @@ returns c =
 
 returns-2 : tie.Need-returns-2
 returns-2 c =
-    let b = c .before .before .before .before .before .before .before in
-    valued _ _ _ _ (answered saidLength (b .before .before .read-cstring-with-max-len .ensures) (b .key .given .1))
+    valued _ _ _ _ (key-told (c .before .before .before .before .before .before .before))
     _ (answered saidLength (c .before .before .before .value-len .ensures) (c .before .number2 .given .1))
 
 returns-3 : tie.Need-returns-3
 returns-3 c =
-    let b = c .before .before .before .before .before .before .before in
-    valued _ _ _ _ (answered saidLength (b .before .before .read-cstring-with-max-len .ensures) (b .key .given .1))
+    valued _ _ _ _ (key-told (c .before .before .before .before .before .before .before))
     _ (answered saidLength (c .before .before .before .value-len .ensures) (c .before .value .given .1))
 
 pub element-at-spec : {M : Type 1} → statement M
@@ -115,10 +89,10 @@ element-at-spec =
     enum-known-number
     enum-known-key
     (λ c. search needs)
-    add-offset
-    add-offset-2
-    sub-value-len
-    part-value-len-start
+    (λ c. omega (arith, key-ends (c .before .before)))
+    (λ c. omega (arith, key-ends (c .before .before)))
+    (λ c. omega (arith, key-ends (c .before .before)))
+    (λ c. omega (arith, key-ends (c .before .before)))
     (λ c. search needs)
     (λ c κs. tt)
     enum-known-number-2
