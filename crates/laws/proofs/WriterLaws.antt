@@ -260,7 +260,7 @@ module _ (d e : Desk) where
 -- ---- the bytes behind
 
 -- "a call that writes keeps all bytes behind its output"
-pub record Behind (d e : Desk) : Type 0 where
+pub record BytesStay (d e : Desk) : Type 0 where
   pub same : drop (used (e .state)) (e .buffer) ≡ drop (used (e .state)) (d .buffer)
   pub long : length (e .buffer) ≡ length (d .buffer)
   pub more : used (d .state) ≤ used (e .state)
@@ -272,19 +272,19 @@ appended-words d more tag key good value e h a =
     ∙ grown-words (d .state) h (a .kind) (length (elementBytes tag (keyIn (a .kind) key) value))
 
 put-behind : (d : Desk) (w : State) (at : ℕ) (text : List ℕ) → at + length text ≤ length (d .buffer) → at + length text ≤ used w
-    → used (d .state) ≤ used w → Behind d (desk w (put (d .buffer) at text))
+    → used (d .state) ≤ used w → BytesStay d (desk w (put (d .buffer) at text))
 put-behind d w at text fits far more =
     record { same = drop-put (d .buffer) at text fits (used w) far; long = length-put (d .buffer) at text fits; more = more }
 
 appended-behind : (d : Desk) (more tag : ℕ) (key : List ℕ) (good : Bool) (value : List ℕ) (e : Desk) → length (d .state) ≡ 406
-    → Appended d more tag key good value e → Behind d e
+    → Appended d more tag key good value e → BytesStay d e
 appended-behind d more tag key good value e h a =
     let new = elementBytes tag (keyIn (a .kind) key) value in
     let (r, s) = room-within (length (d .buffer)) in
     let u = grown-used (d .state) (a .kind) (length new) (omega arith) in
-    subst (Behind d) (sym (a .is)) (put-behind d _ (used (d .state)) new (omega (arith, a .fits)) (omega arith) (omega arith))
+    subst (BytesStay d) (sym (a .is)) (put-behind d _ (used (d .state)) new (omega (arith, a .fits)) (omega arith) (omega arith))
 
-topped-behind : (d e : Desk) → length (d .state) ≡ 406 → Topped d e → Behind d e
+topped-behind : (d e : Desk) → length (d .state) ≡ 406 → Topped d e → BytesStay d e
 topped-behind d e h t =
     let (r, s) = room-within (length (d .buffer)) in
     let z = top-used (d .state) (t .nothing) (possible-says (d .state) (roomOf d) (t .can) .2) in
@@ -292,10 +292,10 @@ topped-behind d e h t =
     let w = set (d .state) 0 4 in
     let u = pushed-used w (length-set (d .state) 0 4 ∙ h) (markOf document) in
     let v : used w ≡ 4 = getD-set-same (d .state) 0 4 0 (omega arith) in
-    subst (Behind d) (sym (t .is)) (put-behind d _ 0 (bytes32 5) (omega (arith, t .fits)) (omega arith) (omega arith))
+    subst (BytesStay d) (sym (t .is)) (put-behind d _ 0 (bytes32 5) (omega (arith, t .fits)) (omega arith) (omega arith))
 
 -- the zero, and then the length
-closed-behind : (d e : Desk) → length (d .state) ≡ 406 → Closed d e → Behind d e
+closed-behind : (d e : Desk) → length (d .state) ≡ 406 → Closed d e → BytesStay d e
 closed-behind d e h c =
     let w = d .state in
     let at = start w (depth w - 1) in
@@ -307,21 +307,21 @@ closed-behind d e h c =
     let whole = put-behind ended (popped w) at (bytes32 (used w + 1 - at)) (omega (arith, s .begun, s .within, zero .long))
     (omega (arith, s .begun))
     (omega arith) in
-    subst (Behind d) (sym (c .is)) (record { same = whole .same ∙ zero .same; long = whole .long ∙ zero .long; more = zero .more })
+    subst (BytesStay d) (sym (c .is)) (record { same = whole .same ∙ zero .same; long = whole .long ∙ zero .long; more = zero .more })
 
-opened-behind : (d : Desk) (n : Embedded) (key : List ℕ) (e : Desk) → length (d .state) ≡ 406 → Opened d n key e → Behind d e
+opened-behind : (d : Desk) (n : Embedded) (key : List ℕ) (e : Desk) → length (d .state) ≡ 406 → Opened d n key e → BytesStay d e
 opened-behind d n key e h o =
     let b = appended-behind d 1 (nestTag (embedded n)) key true (bytes32 5) (o .between) h (o .element) in
     let w = o .between .state in
     let g : length w ≡ 406 = appended-words d 1 (nestTag (embedded n)) key true (bytes32 5) (o .between) h (o .element) in
     let u : used (pushed w (markOf n)) ≡ used w = pushed-used w g (markOf n) in
-    subst (Behind d) (sym (o .is)) (record {
+    subst (BytesStay d) (sym (o .is)) (record {
       same = ap (λ (k : ℕ). drop k (o .between .buffer)) u ∙ b .same ∙ ap (λ (k : ℕ). drop k (d .buffer)) (sym u);
       long = b .long;
       more = omega (arith, b .more);
     })
 
-pub bytes-behind : (c : Call) (d e : Desk) → length (d .state) ≡ 406 → answer c d ≡ gives e → Behind d e
+pub bytes-behind : (c : Call) (d e : Desk) → length (d .state) ≡ 406 → answer c d ≡ gives e → BytesStay d e
 unfolding answer
 bytes-behind openTop d e h q = topped-behind d e h (topped-says d e q)
 bytes-behind close d e h q = closed-behind d e h (closed-says d e q)

@@ -9,7 +9,7 @@ use Rattle.whole.specs.declared.Framed.{Framed}
 use Rattle.whole.specs.declared.Framed.the-variants.{Closed, Opens, Unread}
 
 -- what each case says of the check, the level and the tag: a fixed size other than a boolean's, or the tag of a document or an array
-abbrev pub Holds : Framed → Bool → Level → ℕ → Type 0
-Holds Closed strict l tag = (strict ≡ false) × (l .depth ≤ 200) × (n : ℕ) × (sizedOf tag ≡ gives (fixed n)) × (n ≡ 1 → ⊥)
-Holds (Opens array) strict l tag = (strict ≡ false) × (l .depth ≤ 200) × (tag ≡ cond array 4 3)
-Holds Unread strict l tag = record {}
+abbrev pub FramedSays : Framed → Bool → Level → ℕ → Type 0
+FramedSays Closed strict l tag = (strict ≡ false) × (l .depth ≤ 200) × (n : ℕ) × (sizedOf tag ≡ gives (fixed n)) × (n ≡ 1 → ⊥)
+FramedSays (Opens array) strict l tag = (strict ≡ false) × (l .depth ≤ 200) × (tag ≡ cond array 4 3)
+FramedSays Unread strict l tag = record {}

@@ -10,7 +10,7 @@ ghost use Rattle.cstr.specs.Said.{limitOf};
 ghost use Rattle.iter.specs.Said.{saidElement};
 ghost use Rattle.visit.specs.Said.{saidLevel, saidVisited};
 ghost use Rattle.whole.specs.Said.{said};
-ghost use Rattle.whole.specs.Framed.{Holds};
+ghost use Rattle.whole.specs.Framed.{FramedSays};
 use iter::Cursor;
 use iter::Element;
 use iter::Step;
@@ -82,7 +82,7 @@ enum Framed {
 
 // Of a fixed size all bytes are values, but for a boolean's one byte; framing asks of documents all that reading asks.
 fn tell(strict: bool, level: Level, tag: u8) -> Framed
-    ensures { λ r. ⌜ Holds r strict (saidLevel level) tag ⌝ }
+    ensures { λ r. ⌜ FramedSays r strict (saidLevel level) tag ⌝ }
 {
     if strict {
         return Framed::Unread;
