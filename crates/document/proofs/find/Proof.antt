@@ -38,8 +38,8 @@ module _ (limit : Limit) (s key whole : List ℕ) (offset : ℕ) (i : Searching 
   refused n p e = sym (search-refused _ s key offset n p (rw (i .all) at e)) ∙ i .left
 
   module _ (tag name size : ℕ) (y : stepUnder limit whole (cursor offset false) ≡ gives (yield (sized offset tag name size))) where
-    inside : (offset + 1 + name + 1 + size ≤ length s) × (length whole ≡ length s)
-    inside = (step-yields _ s (cursor offset false) _ (rw (i .all) at y) .inside, ap length (i .all))
+    inside : offset + 1 + name + 1 + size ≤ length s
+    inside = step-yields _ s (cursor offset false) _ (rw (i .all) at y) .inside
 
     named : upToZero whole (offset + 1) name ≡ bytes s (part (offset + 1) name)
     named = rw (i .all) (slice-part s (part (offset + 1) name))
@@ -55,6 +55,13 @@ Inv-loop s key limit whole place₀ place = Searching (limitOf limit) s key whol
 
 abbrev μ-loop : tie.MeasureT-loop
 μ-loop s key limit whole place₀ place = length s - place
+
+-- where a step yields, the element lies within the slice
+within : (b : tie.After-tag Inv-loop μ-loop) → let l = b .before .before .before in let e = b .tag .given .0 in
+    l .loop .place + 1 + e .1 .0 + 1 + e .1 .1 .0 ≤ length (l .before .before .before .before .args .s .now)
+within b =
+    inside _ _ _ _ _ (b .before .before .before .loop .inv) _ _ _
+    (answered (saidSizes _) (b .before .before .sizes-at .ensures) (b .tag .given .1))
 
 loop-holds : tie.Need-loop-holds Inv-loop μ-loop
 unfolding getUnder
@@ -80,65 +87,17 @@ returns-2 c =
 enum-known-tag : tie.Need-enum-known-tag Inv-loop μ-loop
 enum-known-tag c = c .match .keys3
 
-add-start : tie.Need-add-start Inv-loop μ-loop
-add-start c =
-    let b = c .before in
-    omega (
-      arith,
-      inside _ _ _ _ _ (b .before .before .before .loop .inv) _ _ _
-          (answered (saidSizes _) (b .before .before .sizes-at .ensures) (b .tag .given .1)),
-    )
-
-add-zero : tie.Need-add-zero Inv-loop μ-loop
-add-zero c =
-    let b = c .before in
-    omega (
-      arith,
-      inside _ _ _ _ _ (b .before .before .before .loop .inv) _ _ _
-          (answered (saidSizes _) (b .before .before .sizes-at .ensures) (b .tag .given .1)),
-    )
-
-add-behind : tie.Need-add-behind Inv-loop μ-loop
-add-behind c =
-    let b = c .before in
-    omega (
-      arith,
-      inside _ _ _ _ _ (b .before .before .before .loop .inv) _ _ _
-          (answered (saidSizes _) (b .before .before .sizes-at .ensures) (b .tag .given .1)),
-    )
+sub-equal : tie.Need-sub-equal Inv-loop μ-loop
+sub-equal c = search needs
 
 part-equal-end : tie.Need-part-equal-end Inv-loop μ-loop
-part-equal-end c =
-    let b = c .before in
-    omega (
-      arith,
-      inside _ _ _ _ _ (b .before .before .before .loop .inv) _ _ _
-          (answered (saidSizes _) (b .before .before .sizes-at .ensures) (b .tag .given .1)),
-    )
+part-equal-end c = omega (arith, within (c .before), ap length (c .before .before .before .before .loop .inv .all))
 
 returns-3 : tie.Need-returns-3 Inv-loop μ-loop
 returns-3 c =
     let b = c .before .before .before .before in
     let y = answered (saidSizes _) (b .before .before .sizes-at .ensures) (b .tag .given .1) in
     matched _ _ _ _ _ (b .before .before .before .loop .inv) _ _ _ y (sym (c .before .equal .ensures) ∙ c .if1 .taken)
-
-add-place : tie.Need-add-place Inv-loop μ-loop
-add-place c =
-    let b = c .before .before .before .before in
-    omega (
-      arith,
-      inside _ _ _ _ _ (b .before .before .before .loop .inv) _ _ _
-          (answered (saidSizes _) (b .before .before .sizes-at .ensures) (b .tag .given .1)),
-    )
-
-loop-less : tie.Need-loop-less Inv-loop μ-loop
-loop-less c =
-    let b = c .before .before .before .before in
-    omega (
-      arith,
-      inside _ _ _ _ _ (b .before .before .before .loop .inv) _ _ _
-          (answered (saidSizes _) (b .before .before .sizes-at .ensures) (b .tag .given .1)),
-    )
 
 loop-again : tie.Need-loop-again Inv-loop μ-loop
 loop-again c =
@@ -162,14 +121,14 @@ find-spec =
     enum-known-number
     returns-2
     enum-known-tag
-    add-start
-    add-zero
-    add-behind
-    (λ c. search needs)
+    (λ c. omega (arith, within (c .before)))
+    (λ c. omega (arith, within (c .before)))
+    (λ c. omega (arith, within (c .before)))
+    sub-equal
     (λ c. search needs)
     part-equal-end
     (λ c κs. tt)
     returns-3
-    add-place
-    loop-less
+    (λ c. omega (arith, within (c .before .before .before .before)))
+    (λ c. omega (arith, within (c .before .before .before .before)))
     loop-again)
