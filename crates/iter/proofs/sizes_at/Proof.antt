@@ -43,46 +43,36 @@ module _ (s : List ℕ) (n offset : ℕ) (a : admitted s ≡ gives n) where
         let f = admitted-says s n a .0 in
         step-outside limit s n a offset (rw (le-leb 4 offset (omega arith), lt-leb offset (terminator s) (omega arith)))
 
+-- the length that admission told
+told : (b : tie.After-n) → admitted (b .before .before .before .before .args .s .now) ≡ gives (b .n .given .0 .0)
+told b = answered saidLength (b .before .before .admit .ensures) (b .n .given .1)
+
 enum-known-number : tie.Need-enum-known-number
 enum-known-number c = c .match .keys1
 
 enum-known-n : tie.Need-enum-known-n
 enum-known-n c = c .match .keys2
 
-sub-terminator : tie.Need-sub-terminator
-sub-terminator c =
-    let b = c .before in
-    omega (arith, admitted-says _ _ (answered saidLength (b .before .before .admit .ensures) (b .n .given .1)))
-
 element-at-requires : tie.Need-element-at-requires
-element-at-requires c κs =
-    let b = c .before .before .before in
-    below _ _ _ (answered saidLength (b .before .before .admit .ensures) (b .n .given .1)) (c .before .if1 .taken)
+element-at-requires c κs = below _ _ _ (told (c .before .before .before)) (c .before .if1 .taken)
 
 returns : tie.Need-returns
 returns c =
-    let b = c .before .before .before .before in
-    let a = answered saidLength (b .before .before .admit .ensures) (b .n .given .1) in
-    c .element-at .ensures ∙ sym (inside _ _ _ a _ (c .before .before .if1 .taken) (c .before .if2 .taken))
+    c .element-at .ensures
+    ∙ sym (inside _ _ _ (told (c .before .before .before .before)) _ (c .before .before .if1 .taken) (c .before .if2 .taken))
 
 returns-2 : tie.Need-returns-2
-returns-2 c =
-    let b = c .before .before .before in
-    sym (before _ _ _ (answered saidLength (b .before .before .admit .ensures) (b .n .given .1)) _ (c .if2 .left))
+returns-2 c = sym (before _ _ _ (told (c .before .before .before)) _ (c .if2 .left))
 
 returns-3 : tie.Need-returns-3
-returns-3 c =
-    let b = c .before .before .before in
-    sym (ends _ _ _ (answered saidLength (b .before .before .admit .ensures) (b .n .given .1)) _ (c .if3 .taken))
+returns-3 c = sym (ends _ _ _ (told (c .before .before .before)) _ (c .if3 .taken))
 
 returns-4 : tie.Need-returns-4
 returns-4 c =
     sym (step-unadmitted _ _ _ _ _ (answered saidLength (c .before .before .before .admit .ensures) (c .before .number .given .1)))
 
 returns-5 : tie.Need-returns-5
-returns-5 c =
-    let b = c .before .before .before in
-    sym (behind _ _ _ (answered saidLength (b .before .before .admit .ensures) (b .n .given .1)) _ (c .before .if1 .left) (c .if3 .left))
+returns-5 c = sym (behind _ _ _ (told (c .before .before .before)) _ (c .before .if1 .left) (c .if3 .left))
 
 pub sizes-at-spec : {M : Type 1} → statement M
 sizes-at-spec =
@@ -91,7 +81,7 @@ sizes-at-spec =
     (λ c κs. tt)
     enum-known-number
     enum-known-n
-    sub-terminator
+    (λ c. omega (arith, admitted-says _ _ (told (c .before))))
     element-at-requires
     returns
     returns-2
