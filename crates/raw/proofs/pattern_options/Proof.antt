@@ -10,6 +10,7 @@ use Rattle.bson.specs.Framing.{patternOptionsUnder}
 use Rattle.laws.proofs.Common.{rest-part}
 use Rattle.laws.proofs.CstringLaws.{cstring-inside}
 use Rattle.part.specs.Said.{saidLength}
+use Rattle.cstr.specs.Said.{limitOf}
 use Rattle.laws.proofs.AnswerLaws.{answered}
 use borrow.Author.Needs.{needs}
 use native.Mathlib.Omega.{arith}
@@ -24,20 +25,10 @@ module _ (limit : Limit) (v : List ℕ) (p : ℕ) (pattern : cstringUnder limit 
   options (gives n) e = rw (pattern, ← ap (cstringUnder limit) (rest-part v (p + 1)), e)
   options (refuses n k) e = rw (pattern, ← ap (cstringUnder limit) (rest-part v (p + 1)), e)
 
-add-o : tie.Need-add-o
-add-o c =
-    let q = answered saidLength (c .before .before .before .read-cstring-with-max-len .ensures) (c .before .pattern .given .1) in
-    omega (arith, cstring-inside _ _ _ q)
-
-sub-read-cstring-with-max-len : tie.Need-sub-read-cstring-with-max-len
-sub-read-cstring-with-max-len c =
-    let q = answered saidLength (c .before .before .before .read-cstring-with-max-len .ensures) (c .before .pattern .given .1) in
-    omega (arith, cstring-inside _ _ _ q)
-
-part-read-cstring-with-max-len-start : tie.Need-part-read-cstring-with-max-len-start
-part-read-cstring-with-max-len-start c =
-    let q = answered saidLength (c .before .before .before .read-cstring-with-max-len .ensures) (c .before .pattern .given .1) in
-    omega (arith, cstring-inside _ _ _ q)
+-- what the first call answered where it gave a pattern
+told : (b : tie.After-pattern)
+    → let a = b .before .before .before .before .args in cstringUnder (limitOf (a .limit)) (a .v .now) ≡ gives (b .pattern .given .0 .0)
+told b = answered saidLength (b .before .before .read-cstring-with-max-len .ensures) (b .pattern .given .1)
 
 returns : tie.Need-returns
 unfolding patternOptionsUnder
@@ -45,15 +36,13 @@ returns c = rw (answered saidLength (c .before .before .before .read-cstring-wit
 
 returns-2 : tie.Need-returns-2
 returns-2 c =
-    let b = c .before .before .before .before .before in
-    let q = answered saidLength (b .before .before .before .read-cstring-with-max-len .ensures) (b .before .pattern .given .1) in
-    options _ _ _ q _ (answered saidLength (c .before .before .before .read-cstring-with-max-len2 .ensures) (c .before .number2 .given .1))
+    options _ _ _ (told (c .before .before .before .before .before .before)) _
+    (answered saidLength (c .before .before .before .read-cstring-with-max-len2 .ensures) (c .before .number2 .given .1))
 
 returns-3 : tie.Need-returns-3
 returns-3 c =
-    let b = c .before .before .before .before .before in
-    let q = answered saidLength (b .before .before .before .read-cstring-with-max-len .ensures) (b .before .pattern .given .1) in
-    options _ _ _ q _ (answered saidLength (c .before .before .before .read-cstring-with-max-len2 .ensures) (c .before .options .given .1))
+    options _ _ _ (told (c .before .before .before .before .before .before)) _
+    (answered saidLength (c .before .before .before .read-cstring-with-max-len2 .ensures) (c .before .options .given .1))
 
 pub pattern-options-spec : {M : Type 1} → statement M
 pattern-options-spec =
@@ -62,9 +51,9 @@ pattern-options-spec =
     (λ c κs. search needs)
     (λ c. search needs)
     (λ c. search needs)
-    add-o
-    sub-read-cstring-with-max-len
-    part-read-cstring-with-max-len-start
+    (λ c. omega (arith, cstring-inside _ _ _ (told (c .before))))
+    (λ c. omega (arith, cstring-inside _ _ _ (told (c .before))))
+    (λ c. omega (arith, cstring-inside _ _ _ (told (c .before))))
     (λ c. search needs)
     (λ c κs. search needs)
     (λ c. search needs)

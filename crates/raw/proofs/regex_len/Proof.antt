@@ -1,4 +1,6 @@
 -- `raw::regex_len` meets its contract: the pattern and the options, each with a zero behind it.
+use Prim.Native.Nat.{_+_, _<_}
+use lib.ListN.{length}
 use Rattle.bson.specs.Framing.{regexSizeUnder}
 use Rattle.laws.proofs.FramingLaws.{pattern-options-fit, pattern-options-under}
 use Rattle.laws.proofs.AnswerLaws.{answered}
@@ -8,23 +10,12 @@ use native.Mathlib.Omega.{arith}
 use Rattle.raw.proofs.regex_len.Statement.{statement}
 use Rattle.raw.proofs.regex_len.Tie as tie
 
-add-t8 : tie.Need-add-t8
-add-t8 c =
-    let f = pattern-options-fit _ _ (pattern-options-under _ _ _
-    (answered saidPatternOptions (c .before .before .before .pattern-options .ensures) (c .before .pattern .given .1))) in
-    omega arith
-
-add-t9 : tie.Need-add-t9
-add-t9 c =
-    let f = pattern-options-fit _ _ (pattern-options-under _ _ _
-    (answered saidPatternOptions (c .before .before .before .pattern-options .ensures) (c .before .pattern .given .1))) in
-    omega arith
-
-add-t10 : tie.Need-add-t10
-add-t10 c =
-    let f = pattern-options-fit _ _ (pattern-options-under _ _ _
-    (answered saidPatternOptions (c .before .before .before .pattern-options .ensures) (c .before .pattern .given .1))) in
-    omega arith
+-- both texts lie within the part
+fit : (b : tie.After-pattern)
+    → let p = b .pattern .given .0 in p .0 + 1 + p .1 .0 < length (b .before .before .before .before .args .v .now)
+fit b =
+    pattern-options-fit _ _
+    (pattern-options-under _ _ _ (answered saidPatternOptions (b .before .before .pattern-options .ensures) (b .pattern .given .1))) .2
 
 returns : tie.Need-returns
 unfolding regexSizeUnder
@@ -35,4 +26,14 @@ unfolding regexSizeUnder
 returns-2 c = rw (answered saidPatternOptions (c .before .before .before .pattern-options .ensures) (c .before .pattern .given .1))
 
 pub regex-len-spec : {M : Type 1} → statement M
-regex-len-spec = tie.close (tie.spec (λ c κs. search needs) (λ c. search needs) (λ c. search needs) add-t8 add-t9 add-t10 returns returns-2)
+regex-len-spec =
+    tie.close
+    (tie.spec
+    (λ c κs. search needs)
+    (λ c. search needs)
+    (λ c. search needs)
+    (λ c. omega (arith, fit (c .before)))
+    (λ c. omega (arith, fit (c .before)))
+    (λ c. omega (arith, fit (c .before)))
+    returns
+    returns-2)
