@@ -13,7 +13,6 @@ ghost use Rattle.document.specs.Said.{saidEmpty, said, reads};
 use iter::Element;
 use iter::Sizes;
 use part::Length;
-use part::Part;
 use reading::Reading;
 use reading::Which;
 use value::Value;
@@ -98,26 +97,15 @@ fn find(s: &[u8], key: &[u8], limit: usize) -> Hit
                 key: length,
                 value: size,
             } => {
-                let start = place + 1;
-                let zero = start + length;
-                let behind = zero + 1;
+                let element = iter::element_of(place, tag, length, size);
+                let name = element.key;
+                let start = name.offset;
+                let zero = start + name.size;
                 if cstr::equal(key, &whole[start..zero]) {
-                    let name = Part {
-                        offset: start,
-                        size: length,
-                    };
-                    let value = Part {
-                        offset: behind,
-                        size,
-                    };
-                    return Hit::Is(Element {
-                        place,
-                        tag,
-                        key: name,
-                        value,
-                    });
+                    return Hit::Is(element);
                 }
-                place = behind + size;
+                let value = element.value;
+                place = value.offset + value.size;
             }
         }
     }

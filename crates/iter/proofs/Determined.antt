@@ -8,13 +8,15 @@ use Rattle.bson.specs.Answer.{Answer, gives, refuses}
 use Rattle.bson.specs.Step as paper
 use Rattle.laws.proofs.Determined.{Determined, DeterminedPart, injective-by}
 use Rattle.part.proofs.Determined.{unsaidPart}
-use Rattle.iter.specs.Said.{saidSizes, said, behind}
+use Rattle.iter.specs.Said.{saidElement, saidSizes, said, behind}
 use Rattle.iter.specs.declared.Cursor.{Cursor}
 use Rattle.iter.specs.declared.Element.{Element}
 use Rattle.iter.specs.declared.Sizes.{Sizes}
 use Rattle.iter.specs.declared.Sizes.the-variants as sizes
 use Rattle.iter.specs.declared.Step.{Step}
 use Rattle.iter.specs.declared.Step.the-variants.{Yield, End, Refused}
+use Rattle.iter.proofs.element_of.Reads as element-of-reads
+use Rattle.iter.proofs.element_of.Kinds as element-of-kinds
 use Rattle.iter.proofs.sizes_at.Reads as sizes-at-reads
 use Rattle.iter.proofs.sizes_at.Kinds as sizes-at-kinds
 use Rattle.iter.proofs.next_under.Reads as next-under-reads
@@ -26,10 +28,13 @@ use Rattle.iter.proofs.key_at_under.Kinds as key-at-under-kinds
 use Rattle.iter.proofs.key_at.Reads as key-at-reads
 use Rattle.iter.proofs.key_at.Kinds as key-at-kinds
 
--- ---- sizes
+-- ---- elements and sizes
 
 abbrev pub unsaidElement : paper.Element → Element
 unsaidElement e = record { place = e .place; tag = e .tag; key = unsaidPart (e .key); value = unsaidPart (e .value) }
+
+pub element-of-determined : (κs : Lfts 0) (a : Dens κs element-of-kinds.ps) → Determined (element-of-reads.Post κs a)
+element-of-determined κs a r₁ r₂ s₁ s₂ p q = injective-by saidElement unsaidElement (λ e. refl) r₁ r₂ (p ∙ sym q)
 
 abbrev unsaidCursor : paper.Cursor → Cursor
 unsaidCursor c = record { offset = c .offset; ended = c .ended }

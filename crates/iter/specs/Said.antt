@@ -1,5 +1,5 @@
 -- What cursors, elements and the cases of an answer say on paper, and the cursor behind a step (document 01, "Admission and one step").
-use Prim.Native.Nat.{ℕ, _+_}
+use Prim.Native.Nat.{ℕ, _+_, _%_, _^_}
 use mathlib.Core.Path.{_≡_}
 use Rattle.bson.specs.Answer.{Answer, gives, refuses}
 use Rattle.bson.specs.Bytes as bytes
@@ -22,6 +22,16 @@ saidElement e = record { place = e .place; tag = e .tag; key = saidPart (e .key)
 abbrev pub sized : ℕ → ℕ → ℕ → ℕ → paper.Element
 sized place tag key value =
     record { place = place; tag = tag; key = bytes.part (place + 1) key; value = bytes.part (place + 1 + key + 1) value }
+
+-- the same of any numbers, where sums wrap
+abbrev pub sizedWrapping : ℕ → ℕ → ℕ → ℕ → paper.Element
+sizedWrapping place tag key value =
+    record {
+      place = place;
+      tag = tag;
+      key = bytes.part ((place + 1) % 2 ^ 64) key;
+      value = bytes.part ((place + 1 + key + 1) % 2 ^ 64) value;
+    }
 
 abbrev pub saidSizes : ℕ → Sizes → Answer paper.Step
 saidSizes place (sizes.Yield tag key value) = gives (paper.yield (sized place tag key value))

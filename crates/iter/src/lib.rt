@@ -1,12 +1,12 @@
 // The cursor and the step (document 01, "Admission and one step"; src/raw/iter.rs of the Rust).
 ghost use mathlib.Core.Path.{_≡_};
 ghost use mathlib.Core.Bool.{true, false};
-ghost use Prim.Native.Nat.{_<_};
+ghost use Prim.Native.Nat.{_+_, _%_, _^_, _<_};
 ghost use lib.ListN.{length};
 ghost use Rattle.bson.specs.Answer.{at};
 ghost use Rattle.bson.specs.Step.{cursor, yieldingUnder, stepUnder, keyAtUnder, step, keyAt};
 ghost use Rattle.cstr.specs.Said.{limitOf};
-ghost use Rattle.iter.specs.Said.{saidCursor, saidSizes, Answers};
+ghost use Rattle.iter.specs.Said.{saidCursor, saidElement, saidSizes, sizedWrapping, Answers};
 use part::Length;
 use part::Part;
 
@@ -45,6 +45,38 @@ pub enum Sizes {
     Yield { tag: u8, key: usize, value: usize },
     End,
     Refused { number: u8, place: usize },
+}
+
+// a + b, modulo 2^64.
+fn wrapping_add(a: usize, b: usize) -> usize
+    ensures { λ r. ⌜ r ≡ (a + b) % 2 ^ 64 ⌝ }
+{
+    if a <= usize::MAX - b {
+        a + b
+    } else {
+        a - (usize::MAX - b) - 1
+    }
+}
+
+// The element at a place whose key and value are so long. Any numbers get an answer, so the sums wrap; those of a step do not.
+pub fn element_of(place: usize, tag: u8, key: usize, value: usize) -> Element
+    ensures { λ r. ⌜ saidElement r ≡ sizedWrapping place tag key value ⌝ }
+{
+    let start = wrapping_add(place, 1);
+    let zero = wrapping_add(start, key);
+    let behind = wrapping_add(zero, 1);
+    Element {
+        place,
+        tag,
+        key: Part {
+            offset: start,
+            size: key,
+        },
+        value: Part {
+            offset: behind,
+            size: value,
+        },
+    }
 }
 
 // Key, tag, framing, in this order: under a limit 22; 6, 7, then the refusals of the value's class.
@@ -126,23 +158,10 @@ fn advance(s: &[u8], offset: usize, limit: usize) -> Step
             next,
         },
         Sizes::Yield { tag, key, value } => {
-            let start = offset + 1;
-            let behind = start + key + 1;
-            let end = behind + value;
-            let element = Element {
-                place: offset,
-                tag,
-                key: Part {
-                    offset: start,
-                    size: key,
-                },
-                value: Part {
-                    offset: behind,
-                    size: value,
-                },
-            };
+            let element = element_of(offset, tag, key, value);
+            let framed = element.value;
             let next = Cursor {
-                offset: end,
+                offset: framed.offset + framed.size,
                 ended: false,
             };
             Step::Yield { element, next }

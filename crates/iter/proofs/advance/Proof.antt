@@ -1,18 +1,24 @@
 -- `iter::advance` meets its contract: the element of the sizes, and the cursor behind it.
-use Prim.Native.Nat.{_+_, _≤_}
-use mathlib.Core.Path.{refl}
-use lib.ListN.{length}
+use mathlib.Core.Path.{_≡_, refl}
+use mathlib.Core.Bool.{false}
+use denote.Ref.{now}
+use native.Mathlib.Omega.{arith}
+use Rattle.bson.specs.Answer.{gives}
+use Rattle.bson.specs.Step.{cursor, yield, stepUnder}
 use Rattle.laws.proofs.AnswerLaws.{answered}
 use Rattle.laws.proofs.StepLaws.{step-yields}
-use Rattle.iter.specs.Said.{saidSizes}
-use native.Mathlib.Omega.{arith}
+use Rattle.cstr.specs.Said.{limitOf}
+use Rattle.iter.specs.Said.{saidElement, saidSizes}
+use Rattle.iter.proofs.Sized.{made-yields}
 use Rattle.iter.proofs.advance.Statement.{statement}
 use Rattle.iter.proofs.advance.Tie as tie
 
--- where the sizes are told, the element lies within the slice
-within : (b : tie.After-tag) → let a = b .before .before .before .before .args in let e = b .tag .given .0 in
-    a .offset + 1 + e .1 .0 + 1 + e .1 .1 .0 ≤ length (a .s .now)
-within b = step-yields _ _ _ _ (answered (saidSizes _) (b .before .before .sizes-at .ensures) (b .tag .given .1)) .inside
+yields : (b : tie.After-element-of) → let a = b .before .before .before .before .before .before .args in
+    stepUnder (limitOf (a .limit)) (now (a .s)) (cursor (a .offset) false) ≡ gives (yield (saidElement (b .element-of .result)))
+yields b =
+    let t = b .before .before in
+    made-yields _ _ (omega arith) (answered (saidSizes _) (t .before .before .sizes-at .ensures) (t .tag .given .1))
+    (b .element-of .ensures)
 
 enum-told : tie.Need-enum-told
 enum-told c = c .match .keys1
@@ -30,7 +36,7 @@ returns-2 : tie.Need-returns-2
 returns-2 c = rw (answered (saidSizes _) (c .before .before .before .sizes-at .ensures) (c .before .number .given .1)) (refl, refl)
 
 returns-3 : tie.Need-returns-3
-returns-3 c = rw (answered (saidSizes _) (c .before .before .before .sizes-at .ensures) (c .before .tag .given .1)) (refl, refl)
+returns-3 c = rw (yields (c .before .before)) (refl, refl)
 
 pub advance-spec : {M : Type 1} → statement M
 advance-spec =
@@ -40,10 +46,8 @@ advance-spec =
     enum-told
     enum-known-number
     enum-known-tag
-    (λ c. omega (arith, within (c .before)))
-    (λ c. omega (arith, within (c .before)))
-    (λ c. omega (arith, within (c .before)))
-    (λ c. omega (arith, within (c .before)))
+    (λ c κs. tt)
+    (λ c. omega (arith, step-yields _ _ _ _ (yields (c .before .before)) .inside))
     returns
     returns-2
     returns-3)
