@@ -4,8 +4,8 @@ use Rattle.bson.specs.Bytes.{le32, bytes}
 use Rattle.bson.specs.Utf8.{rows, utf8}
 use Rattle.bson.specs.Cstring.{zeroText, cstringUnder}
 use Rattle.bson.specs.Tags.{tags, rowOf}
-use Rattle.bson.specs.Framing.{lengthField, fits, zeroEnded, stringSize, documentSize, scopeSize}
-use Rattle.bson.specs.Framing.{patternOptionsUnder, regexSizeUnder, framedUnder, valueSizeUnder}
+use Rattle.bson.specs.Framing.{lengthField, fits, zeroEnded, stringSize, documentSize, scopeSize, patternOptionsUnder, regexSizeUnder}
+use Rattle.bson.specs.Framing.{framedUnder, valueSizeUnder}
 use Rattle.bson.specs.Step.{admitted, elementUnder, stepUnder, keyAtUnder, iterateFor, iterateUnder}
 use Rattle.bson.specs.Value.{text, scopeValue, content, valueIn, valueOf, elementAtUnder, readAtUnder, readWithUnder, partsOf}
 use Rattle.bson.specs.Value.{partAtUnder}

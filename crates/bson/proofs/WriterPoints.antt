@@ -6,8 +6,7 @@ use Rattle.bson.specs.Decimal.{digits, widthFor, width, decimal}
 use Rattle.bson.specs.Output.{put}
 use Rattle.bson.specs.Grammar.{bytes32, bytes64, unsigned, stringBytes, binaryBytes, row, elementBytes}
 use Rattle.bson.specs.Writer.{fresh, kindOf, kindHolds, stands, stand, room, possible, innermost, keyIn, keyPasses, grown, roomFor}
-use Rattle.bson.specs.Writer.{appended, pushed}
-use Rattle.bson.specs.Writer.{openedIn, openedTop, closed, answer, performed}
+use Rattle.bson.specs.Writer.{appended, pushed, openedIn, openedTop, closed, answer, performed}
 use Rattle.bson.specs.WriterPoints.{outOfTurn, tooDeep, notInOrder, noRoom, writtenPoints, Hold, Same}
 
 pub writer-points-hold : Hold outOfTurn × Hold tooDeep × Hold notInOrder × Hold noRoom × Same writtenPoints

@@ -7,8 +7,8 @@ use mathlib.Core.Bool.{false}
 use Rattle.bson.specs.Answer.{gives}
 use Rattle.bson.specs.Bytes.{Part, bytes}
 use Rattle.bson.specs.Step.{terminator, cursor, Element, past, yield, end, step}
-use Rattle.bson.specs.Value.{boolean, int32, int64, dateTime, double, timestamp, objectId, decimal128, string, code, symbol}
-use Rattle.bson.specs.Value.{null, undefined, minKey, maxKey, dbPointer, binary, regex, Leaf, Value, readAt}
+use Rattle.bson.specs.Value.{boolean, int32, int64, dateTime, double, timestamp, objectId, decimal128, string, code, symbol, null}
+use Rattle.bson.specs.Value.{undefined, minKey, maxKey, dbPointer, binary, regex, Leaf, Value, readAt}
 use Rattle.bson.specs.Value as value
 use Rattle.bson.specs.Grammar.{Item, row, Nest, embedded, scope, document, array, nestTag, Elements, none, leaf, nest}
 

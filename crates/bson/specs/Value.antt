@@ -12,8 +12,8 @@ use Rattle.bson.specs.Tags
 use Rattle.bson.specs.Framing.{inFront, stringSize, patternOptions}
 use Rattle.bson.specs.Step.{admitted, cursor, Element, stepUnder, yielded, handed}
 use Rattle.bson.specs.Cstring.{Limit, unlimited}
-use Tags.{ElementType, Boolean, Int32, Double, Int64, DateTime, Timestamp, ObjectId, Decimal128, Null, Undefined, MinKey, MaxKey}
-use Tags.{String, JavaScriptCode, Symbol, DbPointer, EmbeddedDocument, Array, Binary, RegularExpression, JavaScriptCodeWithScope, typeOf}
+use Tags.{ElementType, Boolean, Int32, Double, Int64, DateTime, Timestamp, ObjectId, Decimal128, Null, Undefined, MinKey, MaxKey, String}
+use Tags.{JavaScriptCode, Symbol, DbPointer, EmbeddedDocument, Array, Binary, RegularExpression, JavaScriptCodeWithScope, typeOf}
 
 -- a value that holds no other: numbers as numbers, a double by its bits, and B for bytes
 pub data Scalar (B : Type 0) : Type 0 where

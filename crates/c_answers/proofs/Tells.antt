@@ -20,8 +20,8 @@ use Rattle.laws.proofs.AnswerLaws.{never, gives-injective}
 use Rattle.laws.proofs.LookupLaws.{get-finds, get-with-says}
 use Rattle.laws.proofs.ReadLaws.{read-step}
 use Rattle.laws.proofs.StepLaws.{step-yields, yields-step}
-use Rattle.laws.proofs.ReadRefusals.{NoZero, one-above, no-zero, no-zero-under, steps, reads, typedReads, damage, checks, JoinsIn}
-use Rattle.laws.proofs.ReadRefusals.{step-in, get-in, get-with-in, empty-in, check-in, join-in}
+use Rattle.laws.proofs.ReadRefusals.{NoZero, one-above, no-zero, no-zero-under, steps, reads, typedReads, damage, checks, JoinsIn, step-in}
+use Rattle.laws.proofs.ReadRefusals.{get-in, get-with-in, empty-in, check-in, join-in}
 use Rattle.c_answers.specs.Numbers.{verdict, emptiness, found, joined, stepped}
 use Rattle.c_answers.specs.declared.VerdictNumbers.{VerdictNumbers}
 use Rattle.c_answers.specs.declared.FoundNumbers.{FoundNumbers}

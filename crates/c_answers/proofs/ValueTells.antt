@@ -27,12 +27,11 @@ use Rattle.laws.proofs.ReadRefusals.{NoZero, no-zero-under, reads, read-in}
 use Rattle.c_answers.specs.Numbers.{tagOf, bitsOf, valueRead}
 use Rattle.c_answers.specs.declared.ValueNumbers.{ValueNumbers}
 use Rattle.c_answers.proofs.Tells.{tells, answerOf, answer-refused}
-use Tags.{ElementType, Boolean, Int32, Double, Int64, DateTime, Timestamp, ObjectId, Decimal128, Null, Undefined, MinKey, MaxKey}
-use Tags.{String, JavaScriptCode, Symbol, DbPointer, EmbeddedDocument, Array, Binary, RegularExpression, JavaScriptCodeWithScope, typeOf}
+use Tags.{ElementType, Boolean, Int32, Double, Int64, DateTime, Timestamp, ObjectId, Decimal128, Null, Undefined, MinKey, MaxKey, String}
+use Tags.{JavaScriptCode, Symbol, DbPointer, EmbeddedDocument, Array, Binary, RegularExpression, JavaScriptCodeWithScope, typeOf}
 use Value.{Leaf, Value, leaf, document, array, codeWithScope, boolean, int32, int64, dateTime, double, timestamp, objectId, decimal128}
-use Value.{string, code}
-use Value.{symbol, null, undefined, minKey, maxKey, dbPointer, binary, regex, asLeaf, bool, timestampOf, text, binaryValue, content}
-use Value.{valueIn, valueOf, readAtUnder, partsOf}
+use Value.{string, code, symbol, null, undefined, minKey, maxKey, dbPointer, binary, regex, asLeaf, bool, timestampOf, text, binaryValue}
+use Value.{content, valueIn, valueOf, readAtUnder, partsOf}
 
 -- ---- values, type by type
 

@@ -9,9 +9,8 @@ use Rattle.bson.specs.Grammar.{unsigned}
 use Rattle.bson.specs.Join.{Outcome, wrote, refused}
 use Rattle.bson.specs.Lookup.{Found}
 use Rattle.bson.specs.Step.{Cursor, Step, yield, end}
-use Rattle.bson.specs.Value.{Value, leaf, document, array, codeWithScope, partsOf}
-use Rattle.bson.specs.Value.{boolean, int32, int64, dateTime, double, timestamp, objectId, decimal128, string, code, symbol}
-use Rattle.bson.specs.Value.{null, undefined, minKey, maxKey, dbPointer, binary, regex}
+use Rattle.bson.specs.Value.{Value, leaf, document, array, codeWithScope, partsOf, boolean, int32, int64, dateTime, double, timestamp}
+use Rattle.bson.specs.Value.{objectId, decimal128, string, code, symbol, null, undefined, minKey, maxKey, dbPointer, binary, regex}
 use Rattle.bson.specs.Writer.{State, used}
 use Rattle.c_answers.specs.declared.VerdictNumbers.{VerdictNumbers}
 use Rattle.c_answers.specs.declared.FoundNumbers.{FoundNumbers}

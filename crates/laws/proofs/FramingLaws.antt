@@ -11,8 +11,8 @@ use Rattle.bson.specs.Bytes.{le32, natural, Part, part}
 use Rattle.bson.specs.Cstring.{Limit, most, cstringUnder, cstring}
 use Rattle.bson.specs.Tags.{Sized, fixed, asString, asPointer, asDocument, asBinary, asRegex, asScope, sizedOf}
 use Rattle.bson.specs.Framing.{lengthField, fits, inFront, zeroEnded, stringSize, pointerSize, documentSize, binarySize, scopeSize}
-use Rattle.bson.specs.Framing.{patternOptions}
-use Rattle.bson.specs.Framing.{regexSize, framed, valueSize, framedUnder, patternOptionsUnder, regexSizeUnder, valueSizeUnder}
+use Rattle.bson.specs.Framing.{patternOptions, regexSize, framed, valueSize, framedUnder, patternOptionsUnder, regexSizeUnder}
+use Rattle.bson.specs.Framing.{valueSizeUnder}
 use Rattle.laws.proofs.Common.{split}
 use Rattle.laws.proofs.CstringLaws.{cstring-below, cstring-under, cstring-most, cstring-kept}
 use Rattle.laws.proofs.AnswerLaws.{never, gives-injective, unless-gives, then-gives}

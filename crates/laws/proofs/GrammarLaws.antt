@@ -15,8 +15,7 @@ use Rattle.bson.specs.Bytes.{le32, le64, i32, i64, signed, part}
 use Rattle.bson.specs.Utf8.{utf8}
 use Rattle.bson.specs.Cstring.{isZero, firstZero, cstring, validCstr, cstringUnder, zeroText}
 use Rattle.bson.specs.Framing.{lengthField, fits, inFront, zeroEnded, stringSize, pointerSize, documentSize, binarySize, scopeSize}
-use Rattle.bson.specs.Framing.{patternOptions}
-use Rattle.bson.specs.Framing.{regexSize, patternOptionsUnder, regexSizeUnder}
+use Rattle.bson.specs.Framing.{patternOptions, regexSize, patternOptionsUnder, regexSizeUnder}
 use Rattle.bson.specs.Step.{admitted}
 use Rattle.bson.specs.Grammar.{bytes32, bytes64, unsigned, stringBytes, elementBytes, documentOf, Ranged}
 use Rattle.laws.proofs.Common.{split, both-hold}

@@ -12,8 +12,8 @@ use Rattle.bson.specs.Bytes.{Part, bytes, same}
 use Rattle.bson.specs.Cstring.{Limit, most, firstZero, cstringUnder, cstring}
 use Rattle.bson.specs.Tags.{Sized, fixed, asString, asPointer, asDocument, asBinary, asRegex, asScope, sizedOf}
 use Rattle.bson.specs.Framing.{patternOptionsUnder, regexSizeUnder, framedUnder, valueSizeUnder}
-use Rattle.bson.specs.Step.{terminator, admitted, Cursor, cursor, Element, past, elementUnder, Step, yield, end, stepUnder}
-use Rattle.bson.specs.Step.{Iteration, ended, broken, more, onward, iterateFor, iterateUnder}
+use Rattle.bson.specs.Step.{terminator, admitted, Cursor, cursor, Element, past, elementUnder, Step, yield, end, stepUnder, Iteration}
+use Rattle.bson.specs.Step.{ended, broken, more, onward, iterateFor, iterateUnder}
 use Rattle.bson.specs.Value.{elementAtUnder, readAtUnder, readWithUnder}
 use Rattle.bson.specs.Lookup.{found, first, getUnder, getWithUnder}
 use Rattle.bson.specs.Level.{Opening, closed, opens, Level, outermost}

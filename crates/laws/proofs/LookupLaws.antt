@@ -14,8 +14,8 @@ use Rattle.bson.specs.Cstring.{Limit}
 use Rattle.bson.specs.Tags.{ElementType, Boolean, Int32, Double, Int64, DateTime, Timestamp, tags, rowOf, typeOf}
 use Rattle.bson.specs.Framing.{inFront}
 use Rattle.bson.specs.Step.{cursor, Element, past, Step, yield, end, stepUnder, Iteration, onward, iterateFor, iterateUnder}
-use Rattle.bson.specs.Value.{Leaf, leaf, boolean, int32, int64, dateTime, double, timestamp, asLeaf, bool, timestampOf}
-use Rattle.bson.specs.Value.{content, valueIn, valueOf, readAtUnder}
+use Rattle.bson.specs.Value.{Leaf, leaf, boolean, int32, int64, dateTime, double, timestamp, asLeaf, bool, timestampOf, content, valueIn}
+use Rattle.bson.specs.Value.{valueOf, readAtUnder}
 use Rattle.bson.specs.Lookup.{Found, found, first, getUnder, getWithUnder, getWith, typed}
 use Rattle.laws.proofs.AnswerLaws.{never, gives-injective, unless-gives, then-gives, at-gives}
 use Rattle.laws.proofs.ReadLaws.{read-step}

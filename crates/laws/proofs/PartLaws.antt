@@ -23,10 +23,10 @@ use Rattle.laws.proofs.TagLaws.{sizeFor}
 use Rattle.laws.specs.FramedAt.{FramedAt}
 use Rattle.laws.proofs.StepLaws.{step-yields}
 use Rattle.laws.proofs.OpenLaws.{scope-says, value-content}
-use Tags.{ElementType, Boolean, Int32, Double, Int64, DateTime, Timestamp, ObjectId, Decimal128, Null, Undefined, MinKey, MaxKey}
-use Tags.{String, JavaScriptCode, Symbol, DbPointer, EmbeddedDocument, Array, Binary, RegularExpression, JavaScriptCodeWithScope}
-use Value.{Leaf, Value, leaf, asLeaf, bool, timestampOf, text, binaryValue, scopeValue, content, valueOf}
-use Value.{string, code, symbol, dbPointer, readAt, partsOf}
+use Tags.{ElementType, Boolean, Int32, Double, Int64, DateTime, Timestamp, ObjectId, Decimal128, Null, Undefined, MinKey, MaxKey, String}
+use Tags.{JavaScriptCode, Symbol, DbPointer, EmbeddedDocument, Array, Binary, RegularExpression, JavaScriptCodeWithScope}
+use Value.{Leaf, Value, leaf, asLeaf, bool, timestampOf, text, binaryValue, scopeValue, content, valueOf, string, code, symbol, dbPointer}
+use Value.{readAt, partsOf}
 
 -- a part ends in a slice of this length
 abbrev pub PartEnds : ℕ → Part → Type 0

@@ -33,9 +33,9 @@ use Rattle.laws.proofs.OpenLaws.{value-opens, opens-shorter}
 use Rattle.laws.proofs.ReadLaws.{element-at-says}
 use Rattle.laws.proofs.GrammarBack.{regex-alone}
 use Rattle.laws.proofs.TagLaws.{sized-by}
-use Tags.{ElementType, Boolean, Int32, Double, Int64, DateTime, Timestamp, ObjectId, Decimal128, Null, Undefined, MinKey, MaxKey}
-use Tags.{String, JavaScriptCode, Symbol, DbPointer, EmbeddedDocument, Array, Binary, RegularExpression, JavaScriptCodeWithScope}
-use Tags.{Sized, fixed, asString, asPointer, asDocument, asBinary, asRegex, asScope, Row, tags, find, rowOf, typeOf}
+use Tags.{ElementType, Boolean, Int32, Double, Int64, DateTime, Timestamp, ObjectId, Decimal128, Null, Undefined, MinKey, MaxKey, String}
+use Tags.{JavaScriptCode, Symbol, DbPointer, EmbeddedDocument, Array, Binary, RegularExpression, JavaScriptCodeWithScope, Sized, fixed}
+use Tags.{asString, asPointer, asDocument, asBinary, asRegex, asScope, Row, tags, find, rowOf, typeOf}
 
 -- ---- admission
 

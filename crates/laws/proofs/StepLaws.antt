@@ -14,8 +14,7 @@ use Rattle.bson.specs.Utf8.{utf8}
 use Rattle.bson.specs.Cstring.{Limit, isZero, firstZero, cstring, validCstr, cstringUnder, zeroText}
 use Rattle.bson.specs.Framing.{valueSize, valueSizeUnder}
 use Rattle.bson.specs.Step.{terminator, admitted, Cursor, cursor, Element, past, Step, yield, end, step, Iteration, ended, broken, more}
-use Rattle.bson.specs.Step.{onward}
-use Rattle.bson.specs.Step.{iterateFor, elementUnder, iterateUnder, stepUnder}
+use Rattle.bson.specs.Step.{onward, iterateFor, elementUnder, iterateUnder, stepUnder}
 use Rattle.laws.specs.FramedAt.{FramedAt}
 use Rattle.laws.proofs.AnswerLaws.{never, gives-injective, unless-gives, then-gives, at-gives}
 use Rattle.laws.proofs.FramingLaws.{value-size-fits, value-size-under}

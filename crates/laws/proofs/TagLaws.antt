@@ -9,9 +9,9 @@ use Rattle.bson.specs.Tags
 use Rattle.bson.specs.Framing.{framed, valueSize, valueSizeUnder}
 use Rattle.laws.proofs.AnswerLaws.{never, gives-injective, then-gives, then-from}
 use Rattle.laws.proofs.Common.{split}
-use Tags.{ElementType, Boolean, Int32, Double, Int64, DateTime, Timestamp, ObjectId, Decimal128, Null, Undefined, MinKey, MaxKey}
-use Tags.{String, JavaScriptCode, Symbol, DbPointer, EmbeddedDocument, Array, Binary, RegularExpression, JavaScriptCodeWithScope}
-use Tags.{Sized, fixed, asString, asPointer, asDocument, asBinary, asRegex, asScope, Row, tags, find, rowOf, typeOf, sizedOf}
+use Tags.{ElementType, Boolean, Int32, Double, Int64, DateTime, Timestamp, ObjectId, Decimal128, Null, Undefined, MinKey, MaxKey, String}
+use Tags.{JavaScriptCode, Symbol, DbPointer, EmbeddedDocument, Array, Binary, RegularExpression, JavaScriptCodeWithScope, Sized, fixed}
+use Tags.{asString, asPointer, asDocument, asBinary, asRegex, asScope, Row, tags, find, rowOf, typeOf, sizedOf}
 
 -- ---- the size and the tag of each type
 

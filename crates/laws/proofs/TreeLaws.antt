@@ -6,8 +6,8 @@ use mathlib.Core.Bool.{Bool}
 use native.Mathlib.Nat.{add-zero}
 use native.Mathlib.Omega.{arith}
 use lib.ListN.{length, length-append}
-use Rattle.bson.specs.Grammar.{Item, row, Embedded, embedded, nestTag, nestBytes, Elements, none, leaf, nest, behind, count}
-use Rattle.bson.specs.Grammar.{elementBytes, listBytes, treeBytes, Shallow, InOrder, ArrayKeys}
+use Rattle.bson.specs.Grammar.{Item, row, Embedded, embedded, nestTag, nestBytes, Elements, none, leaf, nest, behind, count, elementBytes}
+use Rattle.bson.specs.Grammar.{listBytes, treeBytes, Shallow, InOrder, ArrayKeys}
 use Rattle.laws.proofs.GrammarLaws.{length-document, length-element}
 
 -- elements behind others

@@ -13,9 +13,8 @@ use Rattle.bson.specs.Answer.{Answer, gives}
 use Rattle.bson.specs.Output.{put}
 use Rattle.bson.specs.Grammar.{bytes32, row, Embedded, embedded, document, nestTag, elementBytes}
 use Rattle.bson.specs.Writer.{State, used, depth, start, mark, Kind, kindOf, markOf, passes, kindHolds, stands, stand, room, possible, Desk}
-use Rattle.bson.specs.Writer.{desk, popped}
-use Rattle.bson.specs.Writer.{roomOf, innermost, nextDepth, keyIn, keyPasses, grown, roomFor, appended, pushed, openedIn, openedTop, closed}
-use Rattle.bson.specs.Writer.{Call, openTop, close, append, openNest, answer}
+use Rattle.bson.specs.Writer.{desk, popped, roomOf, innermost, nextDepth, keyIn, keyPasses, grown, roomFor, appended, pushed, openedIn}
+use Rattle.bson.specs.Writer.{openedTop, closed, Call, openTop, close, append, openNest, answer}
 use Rattle.laws.proofs.AnswerLaws.{gives-injective, unless-gives, then-gives}
 use Rattle.laws.proofs.Common.{split, both-hold}
 use Rattle.laws.proofs.GrammarLaws.{length-bytes32, length-element}

@@ -10,9 +10,9 @@ use borrow.Author.Tests.{eqb-true}
 use Rattle.bson.specs.Answer.{Answer, gives, refuses}
 use Rattle.bson.specs.Bytes.{natural}
 use Rattle.bson.specs.Grammar.{bytes32, row, embedded, nestTag}
-use Rattle.bson.specs.Writer.{State, used, depth, mark, kindOf, possible, Desk, desk, roomOf, innermost, nextDepth, keyIn}
-use Rattle.bson.specs.Writer.{keyPasses, roomFor, appended, openedIn, openedTop, closed, Call, openTop, close, append, openNest, answer}
-use Rattle.bson.specs.Writer.{leaves, performed}
+use Rattle.bson.specs.Writer.{State, used, depth, mark, kindOf, possible, Desk, desk, roomOf, innermost, nextDepth, keyIn, keyPasses}
+use Rattle.bson.specs.Writer.{roomFor, appended, openedIn, openedTop, closed, Call, openTop, close, append, openNest, answer, leaves}
+use Rattle.bson.specs.Writer.{performed}
 use Rattle.laws.proofs.AnswerLaws.{oneOf, RefusesIn, given, then-in, unless-in, cond-in, refused-in}
 use Rattle.laws.proofs.Common.{split}
 

@@ -10,9 +10,8 @@ use borrow.Author.Tests.{le-leb, lt-leb, eq-eqb, ne-eqb}
 use Rattle.bson.specs.Answer.{Answer, gives, refuses, then}
 use Rattle.bson.specs.Grammar.{bytes32, elementBytes, document}
 use Rattle.bson.specs.Output.{Output, output, put, putText}
-use Rattle.bson.specs.Writer.{State, used, depth, start, markOf, Kind, room, possible, innermost, keyIn}
-use Rattle.bson.specs.Writer.{Desk, desk, appended, pushed, popped, openedTop, closed, openTop, close, answer, Written, written, leaves}
-use Rattle.bson.specs.Writer.{performed}
+use Rattle.bson.specs.Writer.{State, used, depth, start, markOf, Kind, room, possible, innermost, keyIn, Desk, desk, appended, pushed}
+use Rattle.bson.specs.Writer.{popped, openedTop, closed, openTop, close, answer, Written, written, leaves, performed}
 use Rattle.laws.proofs.GrammarLaws.{length-bytes32}
 use Rattle.laws.proofs.OutputLaws.{text-fits}
 use Rattle.laws.proofs.WriterWords.{grown-depth}

@@ -7,8 +7,8 @@ use lib.IntN.{ℤ}
 use contract.Lifetimes.{Lfts}
 use denote.Ref.{RefT, now}
 use Rattle.bson.specs.Grammar.{document, array, Elements}
-use Rattle.bson.specs.Value.{boolean, int32, int64, dateTime, double, timestamp, objectId, decimal128, string, code, symbol}
-use Rattle.bson.specs.Value.{null, undefined, minKey, maxKey, dbPointer, binary, regex}
+use Rattle.bson.specs.Value.{boolean, int32, int64, dateTime, double, timestamp, objectId, decimal128, string, code, symbol, null}
+use Rattle.bson.specs.Value.{undefined, minKey, maxKey, dbPointer, binary, regex}
 use Rattle.bson.specs.Writer.{desk, Call, openTop, close, append, openNest}
 use Rattle.theorems.specs.ReadBack.{Building, unopened, built, treeAfter, Session, Typed, ReadsBack, Stands}
 use Rattle.doc_writer.specs.declared.DocWriter.{DocWriter}

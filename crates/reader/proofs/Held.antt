@@ -14,8 +14,8 @@ use prog.Wp.{Heap}
 use ghost.Atoms.{Atoms, sem}
 use contract.Lifetimes.{Lfts}
 use contract.Monad.{fact}
-use types.Kit.{Given, Item, ‵, raw, _⊛_, some, given, later, _$_, _∵_, !, qed, move, drop, use1, split, pick, learn, fjoin, frame}
-use types.Kit.{show, check, await, updating, now as at-once, done}
+use types.Kit.{Given, Item, ‵, raw, _⊛_, some, given, later, _$_, _∵_, !, qed, move, drop, use1, split, pick, learn, fjoin, frame, show}
+use types.Kit.{check, await, updating, now as at-once, done}
 use denote.RattleType.{RattleType}
 use denote.Laws.{Is, Tells, shows}
 use denote.Plain.{uint-makes, bool-makes}

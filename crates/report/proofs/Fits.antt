@@ -19,8 +19,7 @@ use Rattle.laws.specs.FramedAt.{FramedAt}
 use Rattle.laws.proofs.StepLaws.{Each, iterate-each}
 use Rattle.laws.proofs.OutputLaws.{texts-fit}
 use Rattle.laws.proofs.DecimalLaws.{width-within, width-small}
-use Rattle.report.proofs.Lines.{accepted-size, refused-size}
-use Rattle.report.proofs.Lines.{element-size}
+use Rattle.report.proofs.Lines.{accepted-size, refused-size, element-size}
 
 -- the line of a verdict whose numbers the machine holds
 pub accepted-short : (count : ℕ) → count < 2 ^ 64 → length (verdictLine (gives count)) ≤ 50

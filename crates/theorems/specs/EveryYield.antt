@@ -9,8 +9,8 @@ use lib.ListN.{length, drop}
 use Rattle.bson.specs.Answer.{gives, refuses}
 use Rattle.bson.specs.Bytes.{le32, part, bytes}
 use Rattle.bson.specs.Cstring.{Limit}
-use Rattle.bson.specs.Step.{terminator, admitted, Cursor, cursor, Element, past, span, spans, yield, end, stepUnder}
-use Rattle.bson.specs.Step.{Iteration, ended, broken, more, iterateUnder, elements}
+use Rattle.bson.specs.Step.{terminator, admitted, Cursor, cursor, Element, past, span, spans, yield, end, stepUnder, Iteration, ended}
+use Rattle.bson.specs.Step.{broken, more, iterateUnder, elements}
 use Rattle.bson.specs.Check.{checkUnder}
 
 -- an element begins at an offset and has no gap in it: tag, key, zero, value; and "each has at least two bytes"

@@ -8,8 +8,8 @@ use lib.ListN.{length, take}
 use Rattle.bson.specs.Answer.{Answer, gives, refuses}
 use Rattle.bson.specs.Check.{check}
 use Rattle.bson.specs.Decimal.{decimal}
-use Rattle.bson.specs.Grammar.{Embedded, document, embedded, scope, isArray, Elements, none, leaf, nest}
-use Rattle.bson.specs.Grammar.{behind, count, treeBytes, size, Shallow, Fitting, Good, Numbered}
+use Rattle.bson.specs.Grammar.{Embedded, document, embedded, scope, isArray, Elements, none, leaf, nest, behind, count, treeBytes, size}
+use Rattle.bson.specs.Grammar.{Shallow, Fitting, Good, Numbered}
 use Rattle.bson.specs.Meaning.{Means}
 use Rattle.bson.specs.Writer.{fresh, used, depth, Desk, desk, Call, openTop, close, append, openNest, answer}
 

@@ -4,8 +4,8 @@ use contract.Lifetimes.{Lfts}
 use borrow.Fn.Kinds.{Dens}
 use Rattle.bson.specs.Answer.{Answer}
 use Rattle.bson.specs.Value as paper
-use Rattle.bson.specs.Value.{leaf, boolean, int32, int64, dateTime, double, timestamp, objectId, decimal128, string, code, symbol}
-use Rattle.bson.specs.Value.{null, undefined, minKey, maxKey, dbPointer, binary, regex, document, array, codeWithScope}
+use Rattle.bson.specs.Value.{leaf, boolean, int32, int64, dateTime, double, timestamp, objectId, decimal128, string, code, symbol, null}
+use Rattle.bson.specs.Value.{undefined, minKey, maxKey, dbPointer, binary, regex, document, array, codeWithScope}
 use Rattle.laws.proofs.Determined.{Determined, injective-by, unsaid}
 use Rattle.part.proofs.Determined.{unsaidPart}
 use Rattle.value.specs.Said.{said, saidValue}

@@ -21,9 +21,9 @@ use Rattle.laws.proofs.AnswerLaws.{gives-injective, then-gives, then-from, unle
 use Rattle.laws.proofs.BytesLaws.{bytes-length}
 use Rattle.laws.specs.FramedAt.{FramedAt}
 use Rattle.laws.proofs.TagLaws.{sizeFor, type-sized}
-use Tags.{ElementType, Boolean, Int32, Double, Int64, DateTime, Timestamp, ObjectId, Decimal128, Null, Undefined, MinKey, MaxKey}
-use Tags.{String, JavaScriptCode, Symbol, DbPointer, EmbeddedDocument, Array, Binary, RegularExpression, JavaScriptCodeWithScope}
-use Tags.{Sized, fixed, asString, asPointer, asDocument, asBinary, asRegex, asScope, tags, rowOf, typeOf, sizedOf}
+use Tags.{ElementType, Boolean, Int32, Double, Int64, DateTime, Timestamp, ObjectId, Decimal128, Null, Undefined, MinKey, MaxKey, String}
+use Tags.{JavaScriptCode, Symbol, DbPointer, EmbeddedDocument, Array, Binary, RegularExpression, JavaScriptCodeWithScope, Sized, fixed}
+use Tags.{asString, asPointer, asDocument, asBinary, asRegex, asScope, tags, rowOf, typeOf, sizedOf}
 
 -- ---- parts that open nothing
 

@@ -20,8 +20,7 @@ use Rattle.laws.proofs.StepLaws.{step-admits, step-yields}
 use Rattle.laws.proofs.AdvanceLaws.{step-ends, ended-at}
 use Rattle.laws.proofs.CheckLaws.{walk-eq}
 use Rattle.theorems.proofs.Check.Spots.{spotWalk, bytesLeft, Inner, plain, deep, OpenedAt, Walked, ended, more, walked-says}
-use Rattle.theorems.proofs.Check.Spots.{walked-gives}
-use Rattle.theorems.proofs.Check.Spots.{opens-deeper, Onward, accepted-onward, comes-accepted}
+use Rattle.theorems.proofs.Check.Spots.{walked-gives, opens-deeper, Onward, accepted-onward, comes-accepted}
 use Rattle.theorems.proofs.Check.FirstOfKey.{ends-next}
 use Rattle.bson.specs.Cstring.{Limit}
 

@@ -24,19 +24,16 @@ use Rattle.laws.proofs.BytesLaws.{bytes-length, bytes-trim, bytes-drop, bytes-w
 use Rattle.laws.proofs.Common.{split, both-hold}
 use Rattle.laws.proofs.FramingLaws.{fits-is, in-front-is, pointer-is, binary-is, scope-is}
 use Rattle.laws.proofs.GrammarLaws.{pattern-options-of}
-use Rattle.laws.proofs.GrammarBack.{drop-are, bytes-are, le32-below, le64-below, bytes64-back, i32-back, i64-back, i32-ranged}
-use Rattle.laws.proofs.GrammarBack.{i64-ranged, timestamp-back, string-back, pointer-back, binary-back, old-binary-back, scope-back}
-use Rattle.laws.proofs.GrammarBack.{regex-back}
+use Rattle.laws.proofs.GrammarBack.{drop-are, bytes-are, le32-below, le64-below, bytes64-back, i32-back, i64-back, i32-ranged, i64-ranged}
+use Rattle.laws.proofs.GrammarBack.{timestamp-back, string-back, pointer-back, binary-back, old-binary-back, scope-back, regex-back}
 use Rattle.laws.proofs.StepLaws.{step-yields}
 use Rattle.laws.proofs.OpenLaws.{scope-says, le32-take}
 use Rattle.laws.proofs.TagLaws.{sizeFor, tagFor, sized-by, type-tag}
 use Rattle.theorems.proofs.Grammar.ItemReads.{bytes-here, regex-here}
-use Tags.{ElementType, Boolean, Int32, Double, Int64, DateTime, Timestamp, ObjectId, Decimal128, Null, Undefined, MinKey, MaxKey}
-use Tags.{String, JavaScriptCode, Symbol, DbPointer, EmbeddedDocument, Array, Binary, RegularExpression, JavaScriptCodeWithScope, fixed}
-use Tags.{typeOf}
+use Tags.{ElementType, Boolean, Int32, Double, Int64, DateTime, Timestamp, ObjectId, Decimal128, Null, Undefined, MinKey, MaxKey, String}
+use Tags.{JavaScriptCode, Symbol, DbPointer, EmbeddedDocument, Array, Binary, RegularExpression, JavaScriptCodeWithScope, fixed, typeOf}
 use Value.{boolean, int32, int64, dateTime, double, timestamp, string, code, symbol, null, undefined, minKey, maxKey, dbPointer, binary}
-use Value.{regex}
-use Value.{Leaf, Value, leaf, asLeaf, bool, timestampOf, text, binaryValue, scopeValue, content, valueIn, valueOf}
+use Value.{regex, Leaf, Value, leaf, asLeaf, bool, timestampOf, text, binaryValue, scopeValue, content, valueIn, valueOf}
 use Rattle.bson.specs.Cstring.{unlimited}
 
 -- ---- bytes that are a value's

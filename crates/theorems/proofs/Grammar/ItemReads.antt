@@ -23,8 +23,8 @@ use Rattle.laws.proofs.Common.{split, both-hold}
 use Rattle.laws.proofs.TagLaws.{sizeFor, sized-by}
 use Rattle.laws.proofs.GrammarLaws.{length-bytes32, length-bytes64, le32-bytes, le64-bytes, i32-bytes, i64-bytes, length-string}
 use Rattle.laws.proofs.GrammarLaws.{pattern-options-of, fits-of, in-front-of, string-of, pointer-of, binary-of, regex-of}
-use Tags.{ElementType, Boolean, Int32, Double, Int64, DateTime, Timestamp, ObjectId, Decimal128, Null, Undefined, MinKey, MaxKey}
-use Tags.{String, JavaScriptCode, Symbol, DbPointer, Binary, RegularExpression, fixed, asString, tags, rowOf, typeOf}
+use Tags.{ElementType, Boolean, Int32, Double, Int64, DateTime, Timestamp, ObjectId, Decimal128, Null, Undefined, MinKey, MaxKey, String}
+use Tags.{JavaScriptCode, Symbol, DbPointer, Binary, RegularExpression, fixed, asString, tags, rowOf, typeOf}
 use Value.{boolean, int32, int64, dateTime, double, timestamp, objectId, decimal128, string, code, symbol, null, undefined, minKey, maxKey}
 use Value.{dbPointer, binary, regex, Leaf, Value, leaf, asLeaf, bool, timestampOf, text, binaryValue, content, valueIn}
 

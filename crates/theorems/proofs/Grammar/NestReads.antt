@@ -15,8 +15,8 @@ use Rattle.bson.specs.Tags.{ElementType, EmbeddedDocument, Array, JavaScriptCod
 use Rattle.bson.specs.Framing.{scopeSize, framedUnder}
 use Rattle.bson.specs.Value as value
 use Rattle.bson.specs.Value.{Value, codeWithScope, scopeValue, content}
-use Rattle.bson.specs.Grammar.{bytes32, stringBytes, scopeBytes, documentOf}
-use Rattle.bson.specs.Grammar.{Embedded, document, array, Nest, embedded, scope, nestTag, nestGood, nestBytes}
+use Rattle.bson.specs.Grammar.{bytes32, stringBytes, scopeBytes, documentOf, Embedded, document, array, Nest, embedded, scope, nestTag}
+use Rattle.bson.specs.Grammar.{nestGood, nestBytes}
 use Rattle.bson.specs.Meaning.{nested, holding}
 use Rattle.laws.proofs.TagLaws.{sizeFor}
 use Rattle.laws.proofs.GrammarLaws.{length-bytes32, length-string, length-document, string-of, document-of, document-admitted, scope-of}

@@ -8,8 +8,8 @@ use lib.ListN.{length, drop, length-append, length-drop}
 use lib.Seq.{drop-at}
 use Rattle.bson.specs.Answer.{gives}
 use Rattle.bson.specs.Step.{terminator, admitted}
-use Rattle.bson.specs.Grammar.{bytes32, row, nestTag, nestBytes, Elements, none, leaf, nest}
-use Rattle.bson.specs.Grammar.{elementBytes, documentOf, listBytes, treeBytes, InOrder, Good}
+use Rattle.bson.specs.Grammar.{bytes32, row, nestTag, nestBytes, Elements, none, leaf, nest, elementBytes, documentOf, listBytes, treeBytes}
+use Rattle.bson.specs.Grammar.{InOrder, Good}
 use Rattle.bson.specs.Meaning.{single, MeansFrom, ends, yields, opens, Means}
 use Rattle.laws.proofs.AdvanceLaws.{step-ends}
 use Rattle.laws.proofs.GrammarLaws.{length-bytes32, length-document, document-admitted}

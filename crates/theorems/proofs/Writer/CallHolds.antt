@@ -12,19 +12,16 @@ use Rattle.bson.specs.Answer.{gives}
 use Rattle.bson.specs.Decimal.{decimal}
 use Rattle.bson.specs.Output.{put}
 use Rattle.bson.specs.Grammar.{bytes32, Item, row, Embedded, document, array, embedded, nestTag, isArray, Elements, none, leaf, nest}
-use Rattle.bson.specs.Grammar.{elementBytes}
-use Rattle.bson.specs.Grammar.{documentOf, listBytes, treeBytes, behind, count}
+use Rattle.bson.specs.Grammar.{elementBytes, documentOf, listBytes, treeBytes, behind, count}
 use Rattle.bson.specs.Writer.{State, fresh, used, depth, startAt, start, markAt, mark, Kind, inArray, kindOf, markOf, Desk, desk, roomOf}
-use Rattle.bson.specs.Writer.{innermost, popped}
-use Rattle.bson.specs.Writer.{keyIn, grown, pushed, close, openTop, append, openNest, answer}
+use Rattle.bson.specs.Writer.{innermost, popped, keyIn, grown, pushed, close, openTop, append, openNest, answer}
 use Rattle.theorems.specs.ReadBack.{Open, openOf, with, keyFor}
 use Rattle.laws.proofs.AnswerLaws.{gives-injective}
 use Rattle.laws.proofs.GrammarLaws.{length-bytes32, length-document}
 use Rattle.laws.proofs.OutputLaws.{length-put, take-put, take-put-in, put-over}
 use Rattle.laws.proofs.WriterWords.{onceMore, fresh-words, grown-words, grown-used, grown-other, grown-depth, grown-mark, pushed-words}
-use Rattle.laws.proofs.WriterWords.{pushed-other}
-use Rattle.laws.proofs.WriterWords.{pushed-used, pushed-depth, pushed-start, pushed-mark, popped-words, popped-used, popped-depth}
-use Rattle.laws.proofs.WriterWords.{popped-other}
+use Rattle.laws.proofs.WriterWords.{pushed-other, pushed-used, pushed-depth, pushed-start, pushed-mark, popped-words, popped-used}
+use Rattle.laws.proofs.WriterWords.{popped-depth, popped-other}
 use Rattle.laws.proofs.WriterLaws.{room-within, innermost-says, desk-sizes, taken, Appended, appended-says, opened-says, topped-says}
 use Rattle.laws.proofs.WriterLaws.{sealed, closed-says, bytes-behind}
 use Rattle.laws.proofs.TreeLaws.{count-behind, leaf-bytes, none-length}

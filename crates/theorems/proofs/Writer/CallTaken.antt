@@ -9,8 +9,8 @@ use borrow.Author.Tests.{le-leb}
 use Rattle.bson.specs.Answer.{gives}
 use Rattle.bson.specs.Cstring.{validCstr}
 use Rattle.bson.specs.Grammar.{bytes32, Item, row, Embedded, document, array, embedded, nestTag, elementBytes, count}
-use Rattle.bson.specs.Writer.{State, fresh, used, depth, mark, kindOf, kindHolds, stand, possible, Desk, desk, roomOf, innermost}
-use Rattle.bson.specs.Writer.{keyPasses, openTop, close, append, openNest, answer}
+use Rattle.bson.specs.Writer.{State, fresh, used, depth, mark, kindOf, kindHolds, stand, possible, Desk, desk, roomOf, innermost, keyPasses}
+use Rattle.bson.specs.Writer.{openTop, close, append, openNest, answer}
 use Rattle.laws.proofs.GrammarLaws.{length-bytes32, length-element}
 use Rattle.laws.proofs.WriterWords.{fresh-closed}
 use Rattle.laws.proofs.WriterLaws.{stand-gives, possible-gives, innermost-gives, Appended, appended-gives, opened-gives, topped-gives}

@@ -10,8 +10,8 @@ use lib.ListN.{length, take}
 use Rattle.bson.specs.Answer.{Answer, gives, refuses}
 use Rattle.bson.specs.Cstring.{validCstr}
 use Rattle.bson.specs.Decimal.{decimal}
-use Rattle.bson.specs.Grammar.{bytes32, Item, row, Embedded, document, array, embedded, nestTag, isArray, Elements, none, leaf, nest}
-use Rattle.bson.specs.Grammar.{count, listBytes, treeBytes, Shallow, Fitting, InOrder, Numbered}
+use Rattle.bson.specs.Grammar.{bytes32, Item, row, Embedded, document, array, embedded, nestTag, isArray, Elements, none, leaf, nest, count}
+use Rattle.bson.specs.Grammar.{listBytes, treeBytes, Shallow, Fitting, InOrder, Numbered}
 use Rattle.bson.specs.Writer.{fresh, used, depth, Kind, Desk, desk, roomOf, keyPasses, Call, openTop, close, append, openNest, answer}
 use Rattle.theorems.specs.ReadBack.{Open, openOf, Building, unopened, building, built, with, keyFor, treeAfter, Session, sessionAfter}
 use Rattle.theorems.specs.ReadBack.{turn, run, sessionStart, Typed, ReadsBack, Stands, WriterReadsBack}

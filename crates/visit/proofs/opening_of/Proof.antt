@@ -8,9 +8,8 @@ use Rattle.bson.specs.Level.{closed, opening}
 use Rattle.value.specs.Said.{saidValue}
 use Rattle.value.specs.declared.Value.{Value}
 use Rattle.value.specs.declared.Value.the-variants.{Double, String, Document, Array, Binary, Undefined, ObjectId, Boolean, DateTime, Null}
-use Rattle.value.specs.declared.Value.the-variants.{RegularExpression}
-use Rattle.value.specs.declared.Value.the-variants.{DbPointer, JavaScriptCode, Symbol, JavaScriptCodeWithScope, Int32, Timestamp, Int64}
-use Rattle.value.specs.declared.Value.the-variants.{Decimal128, MinKey, MaxKey}
+use Rattle.value.specs.declared.Value.the-variants.{RegularExpression, DbPointer, JavaScriptCode, Symbol, JavaScriptCodeWithScope, Int32}
+use Rattle.value.specs.declared.Value.the-variants.{Timestamp, Int64, Decimal128, MinKey, MaxKey}
 use Rattle.value.proofs.Value.{the-type}
 use borrow.Author.Needs.{needs}
 use Rattle.visit.proofs.opening_of.Statement.{statement}

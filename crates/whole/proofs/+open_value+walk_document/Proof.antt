@@ -22,9 +22,9 @@ use Rattle.laws.proofs.CheckLaws.{opened-count}
 use Rattle.visit.specs.Said.{saidLevel}
 use Rattle.whole.specs.Said.{said}
 use Rattle.visit.specs.declared.Visited.the-variants.{Is}
-use Rattle.whole.proofs.Walk.{refused-before, yields-placed, opened-refused, opened-closed, opened-inside}
-use Rattle.whole.proofs.Walk.{Enters, enters, visited-is, visited-refused}
-use Rattle.whole.proofs.Walk.{LeftFrom, left-first, left-ends, left-refused, left-value-refused, left-onward}
+use Rattle.whole.proofs.Walk.{refused-before, yields-placed, opened-refused, opened-closed, opened-inside, Enters, enters}
+use Rattle.whole.proofs.Walk.{visited-is, visited-refused, LeftFrom, left-first, left-ends, left-refused, left-value-refused}
+use Rattle.whole.proofs.Walk.{left-onward}
 use Prim.Native.Nat.{ℕ, suc, _+_, _-_, _≤_, _<_}
 use borrow.Fn.Kinds.{In}
 use borrow.Fn.PlainCycle.{Measures, is, falls, and}
