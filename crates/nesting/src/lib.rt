@@ -40,7 +40,7 @@ pub fn open_document(out: &mut [u8], words: &mut Words, key: &[u8]) -> u8
     ensures { λ n. ⌜ writer.written n (now (words .exit)) (now (out .exit))
         ≡ writer.performed (writer.openNest grammar.document (now (key .entry))) (now (words .entry)) (now (out .entry)) ⌝ }
 {
-    open_in(out, words, tags::DOCUMENT, 0xFFFF_FFFF, key)
+    open_in(out, words, tags::DOCUMENT, writer_state::DOCUMENT_MARK, key)
 }
 
 // Opens an array in the innermost. The number of the refusal, or 0.
@@ -64,7 +64,7 @@ pub fn open_top(out: &mut [u8], words: &mut Words) -> u8
             }
             output::put_text(out, 0, b"\x05\0\0\0");
             words[0] = 4;
-            push(words, 0, 0xFFFF_FFFF);
+            push(words, 0, writer_state::DOCUMENT_MARK);
             return 0;
         }
     }

@@ -12,6 +12,9 @@ pub const WORDS: usize = 2 + 2 * MAX_OPEN;
 
 pub type Words = [u32; WORDS];
 
+// The mark of an open document that is no array; that of an array is the number of its elements.
+pub const DOCUMENT_MARK: u32 = 0xFFFF_FFFF;
+
 // What an open document is; an array has so many elements.
 pub enum Kind {
     Document,
@@ -31,7 +34,7 @@ fn kind_of(mark: u32) -> OpenKind
     if mark < bounds::NEGATIVE {
         return OpenKind::Is(Kind::Array(mark));
     }
-    if mark == 0xFFFF_FFFF {
+    if mark == DOCUMENT_MARK {
         return OpenKind::Is(Kind::Document);
     }
     OpenKind::Refused(18)
