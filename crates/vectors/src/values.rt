@@ -14,7 +14,8 @@ use value::Value;
 
 // The types, in the order of `value::Value`.
 const NAMES: [u8; 165] =
-    *b"double string document array binary undefined objectid boolean datetime null regex dbpointer code symbol codewithscope int32 timestamp int64 decimal128 minkey maxkey";
+    *b"double string document array binary undefined objectid boolean datetime null regex dbpointer code symbol \
+    codewithscope int32 timestamp int64 decimal128 minkey maxkey";
 
 // The number of the name, how many fields there are with it, and the numbers behind it, the first perhaps below 0.
 pub struct Words {

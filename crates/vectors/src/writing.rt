@@ -28,7 +28,8 @@ use doc_writer::bytes;
 use doc_writer::scalars;
 
 const CALLS: [u8; 162] =
-    *b"open close document array null undefined minkey maxkey boolean int32 int64 datetime double timestamp string code symbol binary regex dbpointer objectid decimal128";
+    *b"open close document array null undefined minkey maxkey boolean int32 int64 datetime double timestamp \
+    string code symbol binary regex dbpointer objectid decimal128";
 
 // Whether a minus stands in front, which names no digit.
 fn is_below(digits: &[u8]) -> bool {
