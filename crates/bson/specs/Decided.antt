@@ -12,6 +12,8 @@ use Rattle.bson.specs.Vectors.{elem}
 use Rattle.bson.specs.Lookup.{get, getBytes, getWith, typed, getPart, isEmpty}
 use Rattle.bson.specs.Check.{walk, check}
 
+-- ---- documents
+
 -- an answer of which only the refusal matters
 abbrev pub given : {A : Type 0} → Answer A → Answer ℕ
 given a = then a λ _. gives 0
@@ -57,6 +59,8 @@ nullInScope = 0x17 ∷ 0 ∷ 0 ∷ 0 ∷ 0x0F ∷ 0 ∷ 0x10 ∷ 0 ∷ 0 ∷ 0 �
 -- the plain check of a document whose values have this depth
 abbrev pub walkAt : ℕ → List ℕ → Answer ℕ
 walkAt depth s = walk false s (record { isArray = false; base = 0; depth = depth })
+
+-- ---- the points
 
 -- what the definition says, and what was settled
 abbrev pub Point : Type 0
@@ -181,6 +185,8 @@ strictPoints =
     -- the key of an array comes before reading
     ∷ (check true (0x0F ∷ 0 ∷ 0 ∷ 0 ∷ 0x04 ∷ 0 ∷ badBoolean ++ (0 ∷ [])), refuses 19 10)
     ∷ []
+
+-- ---- points that hold
 
 -- points of whatever kind hold
 abbrev pub saidOf : {A : Type 0} → List (A × A) → List A

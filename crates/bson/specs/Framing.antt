@@ -9,6 +9,8 @@ use Rattle.bson.specs.Bytes.{le32, natural, Part, part}
 use Rattle.bson.specs.Cstring.{Limit, unlimited, cstringUnder}
 use Rattle.bson.specs.Tags.{Sized, fixed, asString, asPointer, asDocument, asBinary, asRegex, asScope, sizedOf}
 
+-- ---- length fields and sizes
+
 -- "n is the i32 in front": so many bytes present and n not negative and at least its least, else 8
 unfoldable pub lengthField : ℕ → ℕ → List ℕ → Answer ℕ
 lengthField present least v =
@@ -30,6 +32,8 @@ unfoldable pub zeroEnded : ℕ → List ℕ → Answer ℕ
 zeroEnded size v =
     then (fits size v) λ n.
     unless (eqb (getD v (n - 1) 0) 0) 10 (gives n)
+
+-- ---- the classes of the table
 
 -- "four bytes present and n at least 1 (8), fits (9), last byte zero (10)"
 unfoldable pub stringSize : List ℕ → Answer ℕ
@@ -71,11 +75,14 @@ framedUnder limit asBinary v = binarySize v
 framedUnder limit asRegex v = regexSizeUnder limit v
 framedUnder limit asScope v = scopeSize v
 
+-- ---- the value of a tag
+
 -- "tag, 7; framing"
 unfoldable pub valueSizeUnder : Limit → ℕ → List ℕ → Answer ℕ
 valueSizeUnder limit tag v = then (sizedOf tag) λ z. framedUnder limit z v
 
--- without a limit
+-- ---- without a limit
+
 abbrev pub patternOptions : List ℕ → Answer (Part × Part)
 patternOptions v = patternOptionsUnder unlimited v
 

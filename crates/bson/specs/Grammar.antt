@@ -13,6 +13,8 @@ use Rattle.bson.specs.Decimal.{decimal}
 use Rattle.bson.specs.Value.{Scalar, boolean, int32, int64, dateTime, double, timestamp, objectId, decimal128, string, code, symbol}
 use Rattle.bson.specs.Value.{null, undefined, minKey, maxKey, dbPointer, binary, regex}
 
+-- ---- basic types
+
 -- "4 bytes" and "8 bytes", little-endian
 unfoldable pub bytes32 : ℕ → List ℕ
 bytes32 n = n % 256 ∷ (n / 256 % 256 ∷ (n / 65536 % 256 ∷ (n / 16777216 % 256 ∷ [])))
@@ -40,6 +42,8 @@ binaryBytes subtype contents =
 -- "code_w_s ::= int32 string document": "the int32 is the length in bytes of the entire code_w_s value"
 unfoldable pub scopeBytes : List ℕ → List ℕ → List ℕ
 scopeBytes t d = bytes32 (4 + length (stringBytes t ++ d)) ++ (stringBytes t ++ d)
+
+-- ---- values that hold no document
 
 -- what a leaf is: its bytes are themselves
 abbrev pub Item : Type 0
@@ -75,6 +79,8 @@ row (decimal128 d) = coded 0x13 true d  -- "\x13" e_name decimal128
 row minKey = coded 0xFF true []  -- "\xFF" e_name
 row maxKey = coded 0x7F true []  -- "\x7F" e_name
 
+-- ---- values that hold one
+
 -- an embedded document, and an array, "a normal BSON document with integer values for the keys"
 pub data Embedded : Type 0 where
   document array : Embedded
@@ -109,6 +115,8 @@ isArray (embedded document) = false
 isArray (embedded array) = true
 isArray (scope t) = false
 
+-- ---- trees
+
 -- "e_list ::= element e_list | """
 pub data Elements : Type 0 where
   none : Elements
@@ -126,6 +134,8 @@ count none = 0
 count (leaf key v rest) = suc (count rest)
 count (nest n key inner rest) = suc (count rest)
 
+-- ---- the bytes of a tree
+
 -- the tag, "e_name ::= cstring", and the value
 unfoldable pub elementBytes : ℕ → List ℕ → List ℕ → List ℕ
 elementBytes tag key value = tag ∷ (key ++ (0 ∷ value))
@@ -142,6 +152,8 @@ listBytes (nest n key inner rest) = elementBytes (nestTag n) key (nestBytes n (d
 abbrev pub treeBytes : Elements → List ℕ
 treeBytes t = documentOf (listBytes t)
 
+-- ---- how many values, and how deep
+
 -- the number of values
 abbrev pub size : Elements → ℕ
 size none = 0
@@ -153,6 +165,8 @@ abbrev pub Shallow : ℕ → Elements → Type 0
 Shallow depth none = Unit
 Shallow depth (leaf key v rest) = (depth ≤ 200) × Shallow depth rest
 Shallow depth (nest n key inner rest) = (depth ≤ 200) × (Shallow (depth + levels n) inner × Shallow depth rest)
+
+-- ---- good trees
 
 -- a number that fits half the numbers of its bits
 abbrev pub Ranged : ℕ → ℤ → Type 0
@@ -190,6 +204,8 @@ InOrder (nest n key inner rest) = (validCstr key ≡ true) × ((nestGood n ≡ t
 pub record Good (t : Elements) : Type 0 where
   pub ordered : InOrder t
   pub fits : length (treeBytes t) ≤ 0x7FFF_FFFF
+
+-- ---- the keys of arrays
 
 -- every key in an array meets what is asked at its position; `position` elements of an array, or of no array, come before
 abbrev pub ArrayKeys : (ℕ → List ℕ → Type 0) → Bool → ℕ → Elements → Type 0

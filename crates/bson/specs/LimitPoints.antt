@@ -12,6 +12,8 @@ use Rattle.bson.specs.Lookup.{getUnder, getBytesUnder, getWithUnder, get
 use Rattle.bson.specs.Check.{checkUnder}
 use Rattle.bson.specs.Decided.{Point, given, regexOf, oneNull, nullInScope}
 
+-- ---- documents
+
 abbrev pub abc : List ℕ
 abc = 0x61 ∷ 0x62 ∷ 0x63 ∷ []
 
@@ -39,7 +41,8 @@ holding tag key = (length key + 14) ∷ 0 ∷ 0 ∷ 0 ∷ tag ∷ 0 ∷ only 0x0
 abbrev pub emptyThenLong : List ℕ
 emptyThenLong = 0x0C ∷ 0 ∷ 0 ∷ 0 ∷ 0x0A ∷ 0 ∷ 0x0A ∷ abc ++ (0 ∷ 0 ∷ [])
 
--- keys
+-- ---- keys
+
 unfoldable pub keyPoints : List Point
 keyPoints =
     -- as many bytes as the limit says, and one more; under 0 only an empty key; however large the limit
@@ -56,6 +59,8 @@ keyPoints =
     ∷ (checkUnder (most 0) false (0x05 ∷ 0 ∷ 0 ∷ 0 ∷ []), refuses 1 0)
     ∷ []
 
+-- ---- patterns and options
+
 -- patterns and options, each by itself
 unfoldable pub regexPoints : List Point
 regexPoints =
@@ -70,6 +75,8 @@ regexPoints =
     ∷ (checkUnder (most 0xFFFF_FFFF_FFFF_FFFF) false endless, refuses 22 4)
     ∷ []
 
+-- ---- levels
+
 -- the same limit at every level, and places in the outermost slice
 unfoldable pub nestedPoints : List Point
 nestedPoints =
@@ -81,6 +88,8 @@ nestedPoints =
     ∷ (checkUnder (most 2) true (holding 0x04 abc), refuses 22 10)
     ∷ (checkUnder (most 3) true (holding 0x04 abc), refuses 19 10)
     ∷ []
+
+-- ---- calls
 
 -- steps, readings and lookups, each with what it hands back
 unfoldable pub callPoints : List Point

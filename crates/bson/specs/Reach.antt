@@ -14,6 +14,8 @@ use Rattle.bson.specs.Value.{Value, readAtUnder}
 use Rattle.bson.specs.ArrayKey.{goodArrayKey}
 use Rattle.bson.specs.Level.{opens, opening, Level, outermost, deeper}
 
+-- ---- spots
+
 -- where an iteration stands: in a document that lies at a level, behind so many of its elements, at an offset
 pub record Spot : Type 0 where
   pub document : List ℕ
@@ -41,6 +43,8 @@ placeOf σ = σ .level .base + σ .offset
 abbrev pub Rising : ℕ → List Spot → ℕ → Type 0
 Rising low [] high = low ≤ high
 Rising low (σ ∷ l) high = (low ≤ placeOf σ) × Rising (suc (placeOf σ)) l high
+
+-- ---- what one comes to, and what is true of it where the document is whole
 
 -- all of it under a limit on keys, or under none
 module _ (limit : Limit) where

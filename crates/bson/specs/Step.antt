@@ -9,6 +9,8 @@ use Rattle.bson.specs.Bytes.{le32, natural, Part, part, bytes}
 use Rattle.bson.specs.Cstring.{Limit, unlimited, cstringUnder}
 use Rattle.bson.specs.Framing.{valueSizeUnder}
 
+-- ---- admission
+
 -- "the terminator is the last offset"
 abbrev pub terminator : List ℕ → ℕ
 terminator s = length s - 1
@@ -20,6 +22,8 @@ admitted s =
     (unless (natural (le32 s) && eqb (le32 s) (length s)) 2
     (unless (eqb (getD s (terminator s) 0) 0) 3
     (gives (length s))))
+
+-- ---- the cursor and the element
 
 -- "a cursor is an offset and an ended mark"
 pub record Cursor : Type 0 where
@@ -46,6 +50,8 @@ elementUnder limit s p =
     then (cstringUnder limit (drop (p + 1) s)) λ k.
     then (valueSizeUnder limit (getD s p 0) (drop (p + 1 + k + 1) s)) λ n.
     gives (record { place = p; tag = getD s p 0; key = part (p + 1) k; value = part (p + 1 + k + 1) n })
+
+-- ---- one step
 
 pub data Step : Type 0 where
   yield : Element → Step
@@ -76,6 +82,8 @@ abbrev pub yielded : ℕ → Step → Answer Element
 yielded place (yield e) = gives e
 yielded place end = refuses 16 place
 
+-- ---- the key, handed back
+
 -- "a call that hands back a part has a twin [..]; where the twin refuses, the part is empty"
 abbrev pub handed : List ℕ → Answer Part → List ℕ
 handed s (gives p) = bytes s p
@@ -88,6 +96,8 @@ keyAtUnder limit s c =
     (then (stepUnder limit s c) λ x.
     then (yielded (c .offset) x) λ e.
     gives (e .key))
+
+-- ---- iteration
 
 -- iteration: the elements that steps yield one after the other, and how they end: at the terminator, or refused
 pub data Iteration : Type 0 where
@@ -108,6 +118,8 @@ iterateFor limit (suc n) s offset = onward (stepUnder limit s (cursor offset fal
 unfoldable pub iterateUnder : Limit → List ℕ → ℕ → Iteration
 iterateUnder limit s offset = iterateFor limit (suc (length s)) s offset
 
+-- ---- the bytes of elements
+
 -- the elements that an iteration yields
 abbrev pub elements : Iteration → List Element
 elements ended = []
@@ -123,7 +135,8 @@ abbrev pub spans : List ℕ → List Element → List ℕ
 spans s [] = []
 spans s (e ∷ es) = bytes s (span e) ++ spans s es
 
--- without a limit
+-- ---- without a limit
+
 abbrev pub element : List ℕ → ℕ → Answer Element
 element s p = elementUnder unlimited s p
 

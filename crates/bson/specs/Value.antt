@@ -15,6 +15,8 @@ use Rattle.bson.specs.Cstring.{Limit, unlimited}
 use Tags.{ElementType, Boolean, Int32, Double, Int64, DateTime, Timestamp, ObjectId, Decimal128, Null, Undefined, MinKey, MaxKey, String}
 use Tags.{JavaScriptCode, Symbol, DbPointer, EmbeddedDocument, Array, Binary, RegularExpression, JavaScriptCodeWithScope, typeOf}
 
+-- ---- what a value is
+
 -- a value that holds no other: numbers as numbers, a double by its bits, and B for bytes
 pub data Scalar (B : Type 0) : Type 0 where
   boolean : Bool → Scalar B
@@ -38,6 +40,8 @@ pub data Value : Type 0 where
 
 abbrev pub asLeaf : {A : Type 0} → (A → Leaf) → Answer A → Answer Value
 asLeaf f a = then a λ x. gives (leaf (f x))
+
+-- ---- what the bytes of a value hold
 
 -- "boolean byte above 1" 11
 unfoldable pub bool : List ℕ → Answer Bool
@@ -75,6 +79,8 @@ scopeValue v p =
     (unless (ltb (4 + n) (length v)) 12
     (then (admitted (drop (4 + n) v)) λ _.
     gives (codeWithScope (part (p .offset + 8) (n - 5)) (trim (4 + n) 0 p)))))
+
+-- ---- a value by its type, and by its tag
 
 -- the part p of s holds a value of this type. A text lies "without length and final zero", documents and arrays are "handed back whole"
 unfoldable pub content : List ℕ → Part → ElementType → Answer Value
@@ -116,6 +122,8 @@ valueOf s e = at (e .place) (valueIn s (e .tag) (e .value))
 abbrev pub ofTag : {A : Type 0} → Element → ℕ → A → Answer A
 ofTag e tag a = at (e .place) (unless (eqb (e .tag) tag) 17 (gives a))
 
+-- ---- reading at a place
+
 -- "a value read takes a document and a place, steps there first, then reads"
 unfoldable pub elementAtUnder : Limit → List ℕ → ℕ → Answer Element
 elementAtUnder limit s place = then (stepUnder limit s (cursor place false)) (yielded place)
@@ -129,6 +137,8 @@ readWithUnder limit s place tag =
     then (elementAtUnder limit s place) λ e.
     then (valueOf s e) λ v.
     ofTag e tag v
+
+-- ---- the parts of a value
 
 -- a part that a value has not
 abbrev pub none : Part
@@ -169,7 +179,8 @@ partOf second v = partsOf v .1
 unfoldable pub partAtUnder : Limit → List ℕ → ℕ → ℕ → Which → List ℕ
 partAtUnder limit s place tag w = handed s (then (readWithUnder limit s place tag) λ v. gives (partOf w v))
 
--- without a limit
+-- ---- without a limit
+
 abbrev pub readAt : List ℕ → ℕ → Answer Value
 readAt s place = readAtUnder unlimited s place
 

@@ -11,6 +11,8 @@ use Rattle.bson.specs.Decimal.{decimal}
 use Rattle.bson.specs.Output.{put}
 use Rattle.bson.specs.Grammar.{bytes32, Item, row, Embedded, document, array, embedded, nestTag, elementBytes}
 
+-- ---- the state
+
 -- a state is 406 words: how many bytes are used, how many documents are open, and two words for each that is, outermost first
 abbrev pub State : Type 0
 State = List ℕ
@@ -39,6 +41,8 @@ markAt i = 3 + 2 * i
 abbrev pub mark : State → ℕ → ℕ
 mark w i = getD w (markAt i) 0
 
+-- ---- the kinds of open documents
+
 -- what an open document is; an array has so many elements
 pub data Kind : Type 0 where
   inDocument : Kind
@@ -56,6 +60,8 @@ passes test (refuses n p) = false
 abbrev pub markOf : Embedded → ℕ
 markOf document = 0xFFFF_FFFF
 markOf array = 0
+
+-- ---- states that can be
 
 -- "an array's count above the used bytes" is impossible
 unfoldable pub kindHolds : ℕ → Kind → Bool
@@ -82,6 +88,8 @@ possible w space =
     && (leb (used w + depth w) space
     && stand w (depth w) (used w))
 
+-- ---- the desk
+
 -- the state and the buffer that a call is given, or leaves
 pub record Desk : Type 0 where
   pub state : State
@@ -99,6 +107,8 @@ innermost w space =
     unless (possible w space) 18
     (unless (ltb 0 (depth w)) 18
     (kindOf (mark w (depth w - 1))))
+
+-- ---- an element behind the used bytes
 
 -- how deep the next value lies: "top values have depth 0; inside documents and arrays one more"
 abbrev pub nextDepth : State → ℕ
@@ -139,6 +149,8 @@ appended d more tag key good value =
     let new = elementBytes tag (keyIn kind key) value in
     gives (desk (grown kind w (length new)) (put (d .buffer) (used w) new))
 
+-- ---- opening and closing
+
 -- one document more is open, whose length is the last four bytes
 unfoldable pub pushed : State → ℕ → State
 pushed w mark = set (set (set w (startAt (depth w)) (used w - 4)) (markAt (depth w)) mark) 1 (depth w + 1)
@@ -168,7 +180,8 @@ closed d =
     let at = start w (depth w - 1) in
     gives (desk (popped w) (put (put (d .buffer) (used w) (0 ∷ [])) at (bytes32 (used w + 1 - at))))
 
--- the calls
+-- ---- the calls
+
 pub data Call : Type 0 where
   openTop close : Call
   append : (key : List ℕ) → Item → Call

@@ -10,6 +10,8 @@ use Rattle.bson.specs.Grammar.{document, array}
 use Rattle.bson.specs.Value.{boolean, int32, double, timestamp, string, null, binary, regex}
 use Rattle.bson.specs.Writer.{State, fresh, used, Call, openTop, close, append, openNest, Desk, desk, performed}
 
+-- ---- states and buffers
+
 -- a buffer before it is written to
 abbrev pub blank : ℕ → List ℕ
 blank size = replicate size 0xEE
@@ -36,6 +38,8 @@ nested n = (6 * n + 4) ∷ suc n ∷ starts (suc n) 0
 
 abbrev pub zeroKey : List ℕ
 zeroKey = 0x61 ∷ 0 ∷ []
+
+-- ---- refusals
 
 -- a call, its state and buffer, and the number it returns
 pub record Point : Type 0 where
@@ -122,6 +126,8 @@ settledOf (p ∷ ps) = p .number ∷ settledOf ps
 
 abbrev pub Hold : List Point → Type 0
 Hold points = numbersOf points ≡ settledOf points
+
+-- ---- the bytes that are written
 
 -- calls one after the other, and the used bytes that they leave
 abbrev pub calls : List Call → Desk → Desk

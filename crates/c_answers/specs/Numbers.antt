@@ -22,6 +22,8 @@ use Rattle.c_answers.specs.declared.WrittenNumbers.{WrittenNumbers}
 abbrev pub truth : Bool → ℕ
 truth b = cond b 1 0
 
+-- ---- the check, lookup and joining
+
 -- the whole check: how many values
 abbrev pub verdict : Answer ℕ → VerdictNumbers
 verdict (gives n) = record { number = 0; place = 0; count = n }
@@ -42,6 +44,8 @@ found (refuses number place) = record { number = number; place = place; tag = 0;
 abbrev pub joined : Outcome → JoinedNumbers
 joined (wrote length) = record { number = 0; place = 0; which = 0; length = length }
 joined (refused number place which) = record { number = number; place = place; which = which; length = 0 }
+
+-- ---- steps
 
 -- a step that yields no element, and the cursor behind it
 abbrev pub noElement : ℕ → ℕ → Cursor → StepNumbers
@@ -75,6 +79,8 @@ stepped (gives (yield e)) c =
     }
 stepped (gives end) c = noElement 0 0 c
 stepped (refuses number place) c = noElement number place c
+
+-- ---- values
 
 -- a value's tag
 unfoldable pub tagOf : Value → ℕ
@@ -144,6 +150,8 @@ valueRead (gives v) =
     }
 valueRead (refuses number place) =
     record { number = number; place = place; tag = 0; bits = 0; offset = 0; size = 0; offset2 = 0; size2 = 0 }
+
+-- ---- the writer
 
 -- a writer's call: its number, and where that is 0 the bytes then used
 abbrev pub writtenBy : ℕ → State → WrittenNumbers

@@ -37,6 +37,8 @@ use Rattle.doc_writer.proofs.bytes.append_dbpointer.Reads as append-dbpointer-r
 use Rattle.doc_writer.proofs.bytes.append_object_id.Reads as append-object-id-reads
 use Rattle.doc_writer.proofs.bytes.append_decimal128.Reads as append-decimal128-reads
 
+-- ---- turns
+
 -- what is lent: a buffer, a key or a text
 abbrev pub Lent : Type 0
 Lent = RefT (List ℕ)
@@ -94,6 +96,8 @@ pub data Turn (out : Lent) (w : DocWriter) (r : Written) : Call → List ℕ →
   appends-decimal128 : (κs : Lfts 3) (key bits : Lent) (s : _) → append-decimal128-reads.Post κs (out, (w, (key, (bits, tt)))) r s
       → Turn out w r (append (now key) (decimal128 (now bits))) (now (s .0))
 
+-- ---- sessions
+
 -- the state and the buffer that a call is given, and the tree of the elements given so far
 abbrev pub session : DocWriter → List ℕ → Building → Session
 session w buffer tree = record { left = desk (w .words) buffer; tree = tree }
@@ -108,6 +112,8 @@ pub data Trace (end : Session) : List Call → Session → Type 0 where
   done : Trace end [] end
   turn : (out : Lent) (w : DocWriter) (r : Written) (c : Call) (left : List ℕ) (tree : Building) (cs : List Call) → Turn out w r c left
       → Trace end cs (session (r .writer) left (afterTurn (r .number) c tree)) → Trace end (c ∷ cs) (session w (now out) tree)
+
+-- ---- the statements
 
 -- "what the writer closes, begun fresh and each call given the buffer and the state that the one before left, reads
 -- back as exactly the elements given"

@@ -13,6 +13,8 @@ use Rattle.bson.specs.Step.{terminator, admitted, Cursor, cursor, Element, past
 use Rattle.bson.specs.Step.{broken, more, iterateUnder, elements}
 use Rattle.bson.specs.Check.{checkUnder}
 
+-- ---- elements, one behind the other
+
 -- an element begins at an offset and has no gap in it: tag, key, zero, value; and "each has at least two bytes"
 pub record Lies (s : List ℕ) (from : ℕ) (e : Element) : Type 0 where
   pub tag : e .place ≡ from
@@ -50,6 +52,8 @@ RefusedBy n (more e rest) = RefusedBy n rest
 abbrev pub Overrun : List ℕ → ℕ → Iteration → Type 0
 Overrun s from i = RefusedBy 4 i ↔ (terminator s < from + extent (elements i))
 
+-- ---- where a refusal is met
+
 -- an offset at an element, in it, or where it ends: there 4 is met of a document inside that reaches past its own terminator
 abbrev pub OfElement : Element → ℕ → Type 0
 OfElement e p = (e .place ≤ p) × (p ≤ past e)
@@ -59,6 +63,8 @@ abbrev pub Met : Iteration → ℕ → ℕ → Type 0
 Met ended n p = ⊥
 Met (broken number place) n p = (n ≡ number) × (p ≡ place)
 Met (more e rest) n p = OfElement e p ⊎ Met rest n p
+
+-- ---- the statement
 
 -- an iteration from offset 4 on
 pub record IterationSays (limit : Limit) (s : List ℕ) (i : Iteration) : Type 0 where

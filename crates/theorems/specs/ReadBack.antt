@@ -13,6 +13,8 @@ use Rattle.bson.specs.Grammar.{Shallow, Fitting, Good, Numbered}
 use Rattle.bson.specs.Meaning.{Means}
 use Rattle.bson.specs.Writer.{fresh, used, depth, Desk, desk, Call, openTop, close, append, openNest, answer}
 
+-- ---- the tree of the elements given
+
 -- a document that is open: its nest and its key in the one around it, and the elements in it so far
 pub record Open : Type 0 where
   pub nest : Embedded
@@ -48,6 +50,8 @@ treeAfter (append key v) unopened = unopened
 treeAfter (openNest n key) unopened = unopened
 treeAfter close unopened = unopened
 
+-- ---- sessions
+
 -- "each call given the buffer and the state that the one before left"
 pub record Session : Type 0 where
   pub left : Desk
@@ -82,6 +86,8 @@ abbrev pub Accepted : List Call → Session → Type 0
 Accepted [] s = Unit
 Accepted (c ∷ cs) s = ((d : Desk) × (answer c (s .left) ≡ gives d)) × Accepted cs (turn c s)
 
+-- ---- what is written reads back
+
 -- the used bytes are the tree's bytes; these mean the tree, and pass the whole check with the number of its values
 pub record ReadsBack (d : Desk) (t : Elements) : Type 0 where
   pub closed : depth (d .state) ≡ 0
@@ -101,6 +107,8 @@ Stands buffer d (built t) = ReadsBack d t
 abbrev pub WriterReadsBack : Type 0
 WriterReadsBack = (buffer : List ℕ) (calls : List Call) → Typed calls
     → Stands buffer (run calls (sessionStart buffer) .left) (run calls (sessionStart buffer) .tree)
+
+-- ---- every tree that can be written is
 
 -- a tree without code with scope, which the writer does not make
 abbrev pub Unscoped : Elements → Type 0
