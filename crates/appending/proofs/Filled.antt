@@ -76,8 +76,8 @@ module _ (d : Desk) (more tag : ℕ) (key : List ℕ) (good : Bool) (value : Lis
 
 -- ---- the value behind the head
 
-module _ (w : State) (buffer : List ℕ) (more tag : ℕ) (key : List ℕ) (good : Bool) (value : List ℕ) (size : ℕ) (es : size ≡ length value)
-    (n : ℕ) (v : State) (b : List ℕ) (e : written n v b ≡ heading w buffer more tag key good size) where
+module _ (w : State) (buffer : List ℕ) (more tag : ℕ) (key : List ℕ) (good : Bool) (value : List ℕ) {size : ℕ} (es : size ≡ length value)
+    {n : ℕ} {v : State} {b : List ℕ} (e : written n v b ≡ heading w buffer more tag key good size) where
   was : Answer Desk
   was = headed (desk w buffer) more tag key good (length value)
 
@@ -121,11 +121,11 @@ module _ (w : State) (buffer : List ℕ) (more tag : ℕ) (key : List ℕ) (good
         let r = room-within (length buffer) in
         (omega arith, omega (arith, a .fits, r .0), omega (arith, a .fits, r .1))
 
-    pub value-put : length b ≡ length buffer → (at : ℕ) → at ≡ used v - size → (texts : List (List ℕ)) → joined texts ≡ value
-        → (exit : List ℕ) (end : ℕ) → output exit end ≡ putTexts (output b at) texts
+    pub value-put : length b ≡ length buffer → {at : ℕ} → at ≡ used v - size → (texts : List (List ℕ)) → joined texts ≡ value
+        → {exit : List ℕ} {end : ℕ} → output exit end ≡ putTexts (output b at) texts
         → written n v exit ≡ appending w buffer more tag key good value
     unfolding appending
-    value-put lb at ea texts ej exit end eo =
+    value-put lb {at} ea texts ej {exit} eo =
         let f = value-fits in
         let l : length (joined texts) ≡ length value = ap length ej in
         let x : exit
@@ -136,16 +136,16 @@ module _ (w : State) (buffer : List ℕ) (more tag : ℕ) (key : List ℕ) (good
 -- ---- a head alone
 
 -- whatever the value, it has room
-pub head-ready : (w : State) (buffer : List ℕ) (more tag : ℕ) (key : List ℕ) (good : Bool) (size n : ℕ) (v : State) (b : List ℕ)
-    → written n v b ≡ heading w buffer more tag key good size → n ≡ 0 → (u : ℕ) → u ≡ used v → size ≤ u
-head-ready w buffer more tag key good size n v b e z u eu =
-    omega (arith, value-fits w buffer more tag key good (replicate size 0) size (sym (length-replicate size 0)) n v b e z .0)
+pub head-ready : (w : State) (buffer : List ℕ) (more tag : ℕ) (key : List ℕ) (good : Bool) (size : ℕ) {n : ℕ} {v : State} {b : List ℕ}
+    → written n v b ≡ heading w buffer more tag key good size → n ≡ 0 → {u : ℕ} → u ≡ used v → size ≤ u
+head-ready w buffer more tag key good size e z eu =
+    omega (arith, value-fits w buffer more tag key good (replicate size 0) (sym (length-replicate size 0)) e z .0)
 
 -- a head alone is an element without a value
-pub nothing-put : (w : State) (buffer : List ℕ) (more tag : ℕ) (key : List ℕ) (good : Bool) (n : ℕ) (v : State) (b : List ℕ)
+pub nothing-put : (w : State) (buffer : List ℕ) (more tag : ℕ) (key : List ℕ) (good : Bool) {n : ℕ} {v : State} {b : List ℕ}
     → written n v b ≡ heading w buffer more tag key good 0 → length b ≡ length buffer
     → written n v b ≡ appending w buffer more tag key good []
-nothing-put w buffer more tag key good n v b e lb =
+nothing-put w buffer more tag key good {n} e lb =
     split (eqb n 0)
-    (λ t. value-put w buffer more tag key good [] 0 refl n v b e (eqb-true n 0 t) lb (used v - 0) refl [] refl b (used v - 0) refl)
-    (λ t. head-refused w buffer more tag key good [] 0 refl n v b e (eqb-false n 0 t))
+    (λ t. value-put w buffer more tag key good [] refl e (eqb-true n 0 t) lb refl [] refl refl)
+    (λ t. head-refused w buffer more tag key good [] refl e (eqb-false n 0 t))

@@ -55,8 +55,8 @@ module _ (w : State) (buffer : List ℕ) (more tag : ℕ) (key : List ℕ) (good
       let f = room-says w space more key good size kind e in
       absurd (omega (arith, f .fits, room-within (length buffer) .1)))))
 
-  module _ (p q r s : List ℕ) (size : ℕ) (es : size ≡ bounded (length p + (length q + (length r + length s))))
-      (n : ℕ) (v : State) (b : List ℕ) (e : written n v b ≡ heading w buffer more tag key good size) where
+  module _ (p q r s : List ℕ) {size : ℕ} (es : size ≡ bounded (length p + (length q + (length r + length s))))
+      {n : ℕ} {v : State} {b : List ℕ} (e : written n v b ≡ heading w buffer more tag key good size) where
     value : List ℕ
     value = p ++ (q ++ (r ++ s))
 
@@ -71,21 +71,21 @@ module _ (w : State) (buffer : List ℕ) (more tag : ℕ) (key : List ℕ) (good
 
     pub runs-refused : (n ≡ 0 → ⊥) → written n v b ≡ appending w buffer more tag key good (p ++ (q ++ (r ++ s)))
     unfolding value
-    runs-refused = head-refused w buffer more tag key good value (length value) refl n v b is
+    runs-refused = head-refused w buffer more tag key good value refl is
 
     module _ (z : n ≡ 0) where
       size-is : size ≡ length value
       size-is =
-          let f = value-fits w buffer more tag key good value (length value) refl n v b is z in
+          let f = value-fits w buffer more tag key good value refl is z in
           bounds ∙ sym (within (length value) (omega arith))
 
       pub runs-fit : size ≤ used v
-      runs-fit = value-fits w buffer more tag key good value size size-is n v b e z .0
+      runs-fit = value-fits w buffer more tag key good value size-is e z .0
 
-      pub runs-put : length b ≡ length buffer → (at : ℕ) → at ≡ used v - size → (exit : List ℕ) (end : ℕ)
+      pub runs-put : length b ≡ length buffer → {at : ℕ} → at ≡ used v - size → {exit : List ℕ} {end : ℕ}
           → output exit end ≡ putTexts (output b at) (p ∷ q ∷ r ∷ s ∷ [])
           → written n v exit ≡ appending w buffer more tag key good (p ++ (q ++ (r ++ s)))
       unfolding value
-      runs-put lb at ea exit end eo =
-          value-put w buffer more tag key good value size size-is n v b e z lb at ea (p ∷ q ∷ r ∷ s ∷ [])
-          (ap (λ (l : List ℕ). p ++ (q ++ (r ++ l))) (append-nil s)) exit end eo
+      runs-put lb ea eo =
+          value-put w buffer more tag key good value size-is e z lb ea (p ∷ q ∷ r ∷ s ∷ [])
+          (ap (λ (l : List ℕ). p ++ (q ++ (r ++ l))) (append-nil s)) eo

@@ -22,13 +22,13 @@ pub step-through : (limit : Limit) (s : List ℕ) (c : Cursor) (r : Step) (n : S
     → n ≡ stepped (said r) (behind r) → n ≡ stepsUnder limit s c
 step-through limit s c r n (a, b) e = rw (e, a, b)
 
-pub join-through : (first second buffer exit : List ℕ) (o : paper.Outcome) (n : JoinedNumbers)
+pub join-through : (first second buffer : List ℕ) {exit : List ℕ} {o : paper.Outcome} {n : JoinedNumbers}
     → paper.joined o exit ≡ paper.join first second buffer
     → n ≡ joined o → left n exit ≡ joins first second buffer
-join-through first second buffer exit o n q e = rw (e, ← q)
+join-through first second buffer q e = rw (e, ← q)
 
-pub performed-through : (c : writer.Call) (state exit-state buffer exit : List ℕ) (number : ℕ) (n : WrittenNumbers)
+pub performed-through : (c : writer.Call) (state buffer : List ℕ) {exit-state exit : List ℕ} {number : ℕ} {n : WrittenNumbers}
     → writer.written number exit-state exit ≡ writer.performed c state buffer → n ≡ writtenBy number exit-state
     → leaves n exit-state exit ≡ performs c state buffer
 unfolding performs
-performed-through c state exit-state buffer exit number n q e = rw (e, ← q)
+performed-through c state buffer q e = rw (e, ← q)

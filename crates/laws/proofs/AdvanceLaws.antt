@@ -87,6 +87,6 @@ pub next-begins : (limit : Limit) (s : List ℕ) (c : Cursor) (e : Element) → 
 next-begins limit s c e x = let y = step-yields _ s c e x in (ap (after c) x, omega arith)
 
 -- so does a cursor that stands behind it
-pub next-lands : (limit : Limit) (s : List ℕ) (c : Cursor) (next : ℕ) (ended : Bool) (e : Element) → stepUnder limit s c ≡ gives (yield e)
+pub next-lands : (limit : Limit) (s : List ℕ) (c : Cursor) {next : ℕ} {ended : Bool} {e : Element} → stepUnder limit s c ≡ gives (yield e)
     → after c (stepUnder limit s c) ≡ cursor next ended → next ≡ past e
-next-lands limit s c next ended e x a = ap (λ (d : Cursor). d .offset) (sym a ∙ next-begins _ s c e x .0)
+next-lands limit s c x a = ap (λ (d : Cursor). d .offset) (sym a ∙ next-begins _ s c _ x .0)

@@ -39,22 +39,22 @@ refusedPieces number place =
     (0x72 ∷ 0x65 ∷ 0x66 ∷ 0x75 ∷ 0x73 ∷ 0x65 ∷ 0x64 ∷ sp ∷ []) ∷ decimal number ∷ (sp ∷ []) ∷ decimal place ∷ (nl ∷ []) ∷ []
 
 -- pieces that were put where the line fits are the line put
-module _ (buffer : List ℕ) (at : ℕ) (o : Output) where
-  pub element-put : (e : Element) (v w g h : ℕ) → v ≡ width (e .place) → w ≡ width (e .value .size)
+module _ (buffer : List ℕ) (at : ℕ) {o : Output} where
+  pub element-put : (e : Element) {v w g h : ℕ} → v ≡ width (e .place) → w ≡ width (e .value .size)
       → g ≡ hexDigit (e .tag / 16) → h ≡ hexDigit (e .tag % 16) → leb (at + (v + w + 5)) (length buffer) ≡ true
       → o ≡ putTexts (output buffer at) (elementPieces (e .place) g h (e .value .size)) → o ≡ putText (output buffer at) (elementLine e)
   unfolding elementLine hexByte
-  element-put e v w g h p q i j t c =
+  element-put e {v} {w} p q i j t c =
       line-put buffer at (elementPieces (e .place) (hexDigit (e .tag / 16)) (hexDigit (e .tag % 16)) (e .value .size)) (v + w + 5) o
       (element-size e v w p q) t (rw (i, j) at c)
 
-  pub accepted-put : (count w : ℕ) → w ≡ width count → leb (at + (w + 10)) (length buffer) ≡ true
+  pub accepted-put : (count : ℕ) {w : ℕ} → w ≡ width count → leb (at + (w + 10)) (length buffer) ≡ true
       → o ≡ putTexts (output buffer at) (acceptedPieces count) → o ≡ putText (output buffer at) (verdictLine (gives count))
   unfolding verdictLine
-  accepted-put count w p t c = line-put buffer at (acceptedPieces count) (w + 10) o (accepted-size count w p) t c
+  accepted-put count {w} p t c = line-put buffer at (acceptedPieces count) (w + 10) o (accepted-size count w p) t c
 
-  pub refused-put : (number place v w : ℕ) → v ≡ width number → w ≡ width place → leb (at + (v + w + 10)) (length buffer) ≡ true
+  pub refused-put : (number place : ℕ) {v w : ℕ} → v ≡ width number → w ≡ width place → leb (at + (v + w + 10)) (length buffer) ≡ true
       → o ≡ putTexts (output buffer at) (refusedPieces number place) → o ≡ putText (output buffer at) (verdictLine (refuses number place))
   unfolding verdictLine
-  refused-put number place v w p q t c =
+  refused-put number place {v} {w} p q t c =
       line-put buffer at (refusedPieces number place) (v + w + 10) o (refused-size number place v w p q) t c

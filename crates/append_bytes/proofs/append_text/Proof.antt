@@ -13,7 +13,7 @@ use Rattle.append_bytes.proofs.append_text.Tie as tie
 sub-at : tie.Need-sub-at
 sub-at c =
     let h = c .before .before .before .before .before in
-    head-ready _ _ _ _ _ _ _ _ _ _ (h .head .ensures) (c .before .before .if1 .taken) _ (c .used .ensures .0)
+    head-ready _ _ _ _ _ _ _ (h .head .ensures) (c .before .before .if1 .taken) (c .used .ensures .0)
 
 returns : tie.Need-returns
 returns c =
@@ -25,16 +25,16 @@ returns c =
     let i = h .before .before .before .before in
     let a = i .before .before .before .before .args in
     let o = then-put _ (then-put _ (l .put-bytes32 .ensures) (t .put-text .ensures)) (z .put-text2 .ensures) in
-    let e = value-put _ _ _ _ _ _ _ _ (text-size (a .text .now)) _ _ _ (h .head .ensures) (u .before .before .if1 .taken)
-    (h .head .kept .0) _
-    (ap (λ (n : ℕ). n - (length (a .text .now) + 5)) (u .used .ensures .0)) (_ ∷ _ ∷ _ ∷ []) (text-joined (a .text .now)) _ _ o in
+    let e = value-put _ _ _ _ _ _ _ (text-size (a .text .now)) (h .head .ensures) (u .before .before .if1 .taken)
+    (h .head .kept .0)
+    (ap (λ (n : ℕ). n - (length (a .text .now) + 5)) (u .used .ensures .0)) (_ ∷ _ ∷ _ ∷ []) (text-joined (a .text .now)) o in
     whole-key _ _ _ _ _ e (i .is-utf8 .ensures)
 
 returns-2 : tie.Need-returns-2
 returns-2 c =
     let h = c .before .before .before in
     let i = h .before .before .before .before in
-    let e = head-refused _ _ _ _ _ _ _ _ (text-size (i .before .before .before .before .args .text .now)) _ _ _ (h .head .ensures)
+    let e = head-refused _ _ _ _ _ _ _ (text-size (i .before .before .before .before .args .text .now)) (h .head .ensures)
     (c .if1 .left) in
     whole-key _ _ _ _ _ e (i .is-utf8 .ensures)
 

@@ -14,7 +14,7 @@ use Rattle.append_scalars.proofs.append_bool.Tie as tie
 sub-at : tie.Need-sub-at
 sub-at c =
     let h = c .before .before .before .before .before in
-    head-ready _ _ _ _ _ _ _ _ _ _ (h .head .ensures) (c .before .before .if1 .taken) _ (c .used .ensures .0)
+    head-ready _ _ _ _ _ _ _ (h .head .ensures) (c .before .before .if1 .taken) (c .used .ensures .0)
 
 returns : tie.Need-returns
 unfolding performed answer row appending
@@ -23,12 +23,12 @@ returns c =
     let u = p .before .before .before in
     let h = u .before .before .before .before .before in
     let s = h .before .before .before .before .before in
-    value-put _ _ _ _ _ _ _ _ refl _ _ _ (h .head .ensures) (u .before .before .if1 .taken) (h .head .kept .0) _
-    (ap (λ (n : ℕ). n - 1) (u .used .ensures .0)) (_ ∷ []) (ap (λ (n : ℕ). n ∷ []) (boolean-byte (s .args .b))) _ _ (p .put-text .ensures)
+    value-put _ _ _ _ _ _ _ refl (h .head .ensures) (u .before .before .if1 .taken) (h .head .kept .0)
+    (ap (λ (n : ℕ). n - 1) (u .used .ensures .0)) (_ ∷ []) (ap (λ (n : ℕ). n ∷ []) (boolean-byte (s .args .b))) (p .put-text .ensures)
 
 returns-2 : tie.Need-returns-2
 unfolding performed answer row appending
-returns-2 c = head-refused _ _ _ _ _ _ _ _ refl _ _ _ (c .before .before .before .head .ensures) (c .if1 .left)
+returns-2 c = head-refused _ _ _ _ _ _ _ refl (c .before .before .before .head .ensures) (c .if1 .left)
 
 pub append-bool-spec : {M : Type 1} → statement M
 append-bool-spec =

@@ -17,7 +17,7 @@ use Rattle.append_scalars.proofs.append_int32.Tie as tie
 sub-at : tie.Need-sub-at
 sub-at c =
     let h = c .before .before .before .before .before in
-    head-ready _ _ _ _ _ _ _ _ _ _ (h .head .ensures) (c .before .before .if1 .taken) _ (c .used .ensures .0)
+    head-ready _ _ _ _ _ _ _ (h .head .ensures) (c .before .before .if1 .taken) (c .used .ensures .0)
 
 returns : tie.Need-returns
 unfolding performed answer row appending
@@ -27,12 +27,12 @@ returns c =
     let h = u .before .before .before .before .before in
     let s = h .before .before .before .before .before in
     let e = passed w32 (s .args .n) (s .fits .n) (unsigned 0x8000_0000) (p .before .bits32 .ensures) in
-    value-put _ _ _ _ _ _ _ _ (sym (length-bytes32 _)) _ _ _ (h .head .ensures) (u .before .before .if1 .taken) (h .head .kept .0) _
-    (ap (λ (n : ℕ). n - 4) (u .used .ensures .0)) (_ ∷ []) (word _ ∙ ap bytes32 e) _ _ (p .put-bytes32 .ensures)
+    value-put _ _ _ _ _ _ _ (sym (length-bytes32 _)) (h .head .ensures) (u .before .before .if1 .taken) (h .head .kept .0)
+    (ap (λ (n : ℕ). n - 4) (u .used .ensures .0)) (_ ∷ []) (word _ ∙ ap bytes32 e) (p .put-bytes32 .ensures)
 
 returns-2 : tie.Need-returns-2
 unfolding performed answer row appending
-returns-2 c = head-refused _ _ _ _ _ _ _ _ (sym (length-bytes32 _)) _ _ _ (c .before .before .before .head .ensures) (c .if1 .left)
+returns-2 c = head-refused _ _ _ _ _ _ _ (sym (length-bytes32 _)) (c .before .before .before .head .ensures) (c .if1 .left)
 
 pub append-int32-spec : {M : Type 1} → statement M
 append-int32-spec =

@@ -11,7 +11,7 @@ use Rattle.append_scalars.proofs.append_words.Tie as tie
 sub-at : tie.Need-sub-at
 sub-at c =
     let h = c .before .before .before .before .before in
-    head-ready _ _ _ _ _ _ _ _ _ _ (h .head .ensures) (c .before .before .if1 .taken) _ (c .used .ensures .0)
+    head-ready _ _ _ _ _ _ _ (h .head .ensures) (c .before .before .if1 .taken) (c .used .ensures .0)
 
 returns : tie.Need-returns
 returns c =
@@ -19,12 +19,12 @@ returns c =
     let q = t .before .before .before in
     let u = q .before .before in
     let h = u .before .before .before .before .before in
-    value-put _ _ _ _ _ _ _ _ (eight _ _) _ _ _ (h .head .ensures) (u .before .before .if1 .taken) (h .head .kept .0) _
-    (ap (λ (n : ℕ). n - 8) (u .used .ensures .0)) (_ ∷ []) (words _ _ _ _ (q .before .bytes32 .ensures) (q .bytes322 .ensures)) _ _
+    value-put _ _ _ _ _ _ _ (eight _ _) (h .head .ensures) (u .before .before .if1 .taken) (h .head .kept .0)
+    (ap (λ (n : ℕ). n - 8) (u .used .ensures .0)) (_ ∷ []) (words _ _ _ _ (q .before .bytes32 .ensures) (q .bytes322 .ensures))
     (t .put-text .ensures)
 
 returns-2 : tie.Need-returns-2
-returns-2 c = head-refused _ _ _ _ _ _ _ _ (eight _ _) _ _ _ (c .before .before .before .head .ensures) (c .if1 .left)
+returns-2 c = head-refused _ _ _ _ _ _ _ (eight _ _) (c .before .before .before .head .ensures) (c .if1 .left)
 
 pub append-words-spec : {M : Type 1} → statement M
 append-words-spec =

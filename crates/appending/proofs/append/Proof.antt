@@ -11,7 +11,7 @@ sub-at : tie.Need-sub-at
 sub-at c =
     let h = c .before .before .before .before .before in
     let a = h .before .before .before .before .before .before .before .before .before .before .args in
-    let f = runs-fit _ _ _ _ _ _ (a .p .now) (a .q .now) (a .r .now) (a .s .now) _ (h .before .before .before .total .ensures) _ _ _
+    let f = runs-fit _ _ _ _ _ _ (a .p .now) (a .q .now) (a .r .now) (a .s .now) (h .before .before .before .total .ensures)
     (h .head .ensures) (c .before .before .if1 .taken) in
     omega (arith, c .used .ensures .0)
 
@@ -20,14 +20,14 @@ returns c =
     let u = c .before .before .before .before in
     let h = u .before .before .before .before .before in
     let t = h .before .before .before in
-    runs-put _ _ _ _ _ _ _ _ _ _ _ (t .total .ensures) _ _ _ (h .head .ensures) (u .before .before .if1 .taken) (h .head .kept .0) _
-    (ap (λ (n : ℕ). n - t .total .result) (u .used .ensures .0)) _ _ (c .before .before .put-runs .ensures)
+    runs-put _ _ _ _ _ _ _ _ _ _ (t .total .ensures) (h .head .ensures) (u .before .before .if1 .taken) (h .head .kept .0)
+    (ap (λ (n : ℕ). n - t .total .result) (u .used .ensures .0)) (c .before .before .put-runs .ensures)
 
 returns-2 : tie.Need-returns-2
 returns-2 c =
     let h = c .before .before .before in
     let a = h .before .before .before .before .before .before .before .before .before .before .args in
-    runs-refused _ _ _ _ _ _ (a .p .now) (a .q .now) (a .r .now) (a .s .now) _ (h .before .before .before .total .ensures) _ _ _
+    runs-refused _ _ _ _ _ _ (a .p .now) (a .q .now) (a .r .now) (a .s .now) (h .before .before .before .total .ensures)
     (h .head .ensures) (c .if1 .left)
 
 pub append-spec : {M : Type 1} → statement M

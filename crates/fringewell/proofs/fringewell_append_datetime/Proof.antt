@@ -15,7 +15,7 @@ returns : tie.Need-returns
 returns c =
     let a = c .before .before .before .before in
     let s = a .before .before .before .before .before in
-    performed-through _ _ _ _ _ _ _
+    performed-through _ _ _
     (passed w64 (s .args .n) (s .fits .n) (λ (n : ℤ). performed (append (s .args .key .now) (dateTime n)) (s .args .words .now)
     (s .args .out .now)) (a .append-datetime .ensures))
     (c .of-written .ensures)

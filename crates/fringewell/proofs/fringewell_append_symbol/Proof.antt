@@ -7,7 +7,7 @@ same-length : tie.Need-same-length
 same-length c = c .before .before .before .before .append-symbol .kept .0
 
 returns : tie.Need-returns
-returns c = performed-through _ _ _ _ _ _ _ (c .before .before .before .before .append-symbol .ensures) (c .of-written .ensures)
+returns c = performed-through _ _ _ (c .before .before .before .before .append-symbol .ensures) (c .of-written .ensures)
 
 pub fringewell-append-symbol-spec : {M : Type 1} → statement M
 fringewell-append-symbol-spec = tie.close (tie.spec (λ c κs. tt) (λ c κs. tt) same-length returns)

@@ -10,15 +10,15 @@ use Rattle.nesting.proofs.open_in.Tie as tie
 
 sub-start : tie.Need-sub-start
 sub-start c =
-    head-ready _ _ _ _ _ _ _ _ _ _ (c .before .before .before .before .head .ensures) (c .before .if1 .taken) _ refl
+    head-ready _ _ _ _ _ _ _ (c .before .before .before .before .head .ensures) (c .before .if1 .taken) refl
 
 push-requires : tie.Need-push-requires
 push-requires c κs =
     let p = c .before .before .before in
     let i = p .before .before .before .before in
     let h = i .before .before .before in
-    let e = value-put _ _ _ _ _ _ _ _ (sym (length-bytes32 5)) _ _ _ (h .head .ensures) (i .if1 .taken) (h .head .kept .0) _
-    (p .before .wide .ensures .0) (_ ∷ []) (append-nil _) _ _ (p .put-bytes32 .ensures) in
+    let e = value-put _ _ _ _ _ _ _ (sym (length-bytes32 5)) (h .head .ensures) (i .if1 .taken) (h .head .kept .0)
+    (p .before .wide .ensures .0) (_ ∷ []) (append-nil _) (p .put-bytes32 .ensures) in
     opened-ready _ _ _ 0 _ _ _ _ e (i .if1 .taken)
 
 returns : tie.Need-returns
@@ -26,14 +26,14 @@ returns c =
     let p = c .before .before .before .before in
     let i = p .before .before .before .before in
     let h = i .before .before .before in
-    let e = value-put _ _ _ _ _ _ _ _ (sym (length-bytes32 5)) _ _ _ (h .head .ensures) (i .if1 .taken) (h .head .kept .0) _
-    (p .before .wide .ensures .0) (_ ∷ []) (append-nil _) _ _ (p .put-bytes32 .ensures) in
+    let e = value-put _ _ _ _ _ _ _ (sym (length-bytes32 5)) (h .head .ensures) (i .if1 .taken) (h .head .kept .0)
+    (p .before .wide .ensures .0) (_ ∷ []) (append-nil _) (p .put-bytes32 .ensures) in
     opened-done _ _ _ _ _ _ _ _ e (i .if1 .taken) _ (c .push .ensures)
 
 returns-2 : tie.Need-returns-2
 returns-2 c =
     opened-refused _ _ _ _ _ _ _ _
-    (head-refused _ _ _ _ _ _ _ _ (sym (length-bytes32 5)) _ _ _ (c .before .before .before .head .ensures) (c .if1 .left)) (c .if1 .left)
+    (head-refused _ _ _ _ _ _ _ (sym (length-bytes32 5)) (c .before .before .before .head .ensures) (c .if1 .left)) (c .if1 .left)
 
 pub open-in-spec : {M : Type 1} → statement M
 open-in-spec =

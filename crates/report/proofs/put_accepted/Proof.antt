@@ -11,7 +11,7 @@ returns c =
     let d = c .before .before .before .before .before .before .before in
     let t = d .before .before .before .before in
     let f = t .before .before .before in
-    accepted-put _ _ _ _ _ (f .before .before .width-of .ensures .0) (sym (f .before .fits2 .ensures) ∙ f .if1 .taken)
+    accepted-put _ _ _ (f .before .before .width-of .ensures .0) (sym (f .before .fits2 .ensures) ∙ f .if1 .taken)
     (then-put _ (then-put _ (t .put-text .ensures) (d .put-decimal .ensures)) (c .before .before .put-text2 .ensures))
 
 returns-2 : tie.Need-returns-2

@@ -12,7 +12,7 @@ returns c =
     let m = n .before .before .before .before in
     let p = m .before .before .before .before .before in
     let f = p .before .before .before .before in
-    element-put _ _ _ _ _ _ _ _ (f .before .before .before .width-of .ensures .0) (f .before .before .width-of2 .ensures .0)
+    element-put _ _ _ (f .before .before .before .width-of .ensures .0) (f .before .before .width-of2 .ensures .0)
     (p .before .before .before .hex-digit .ensures) (p .before .before .hex-digit2 .ensures)
     (sym (f .before .fits2 .ensures) ∙ f .if1 .taken)
     (then-put _ (then-put _ (then-put _ (p .put-decimal .ensures) (m .put-text .ensures)) (n .put-decimal2 .ensures))

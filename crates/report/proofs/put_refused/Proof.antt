@@ -13,7 +13,7 @@ returns c =
     let n = s .before .before .before .before .before in
     let t = n .before .before .before .before in
     let f = t .before .before .before in
-    refused-put _ _ _ _ _ _ _ (f .before .before .before .width-of .ensures .0) (f .before .before .width-of2 .ensures .0)
+    refused-put _ _ _ _ (f .before .before .before .width-of .ensures .0) (f .before .before .width-of2 .ensures .0)
     (sym (f .before .fits2 .ensures) ∙ f .if1 .taken)
     (then-put _ (then-put _ (then-put _ (then-put _ (t .put-text .ensures) (n .put-decimal .ensures)) (s .put-text2 .ensures))
     (p .put-decimal2 .ensures)) (c .before .before .put-text3 .ensures))
