@@ -83,7 +83,7 @@ module _ (w : State) (buffer : List ℕ) (m : ℕ) (kind : Kind) (em : m ≡ roo
       unfolding front
       front-fits =
           let r = room-says w (room (length buffer)) more key good size kind (passed e) in
-          omega (arith, r .fits, length-element tag (keyIn kind key) [])
+          omega (arith, r .in-room, length-element tag (keyIn kind key) [])
 
       front-put : output exit end ≡ output (put buffer (used w) front) (used w + length front)
       unfolding front

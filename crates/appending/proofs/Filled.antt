@@ -56,7 +56,7 @@ module _ (d : Desk) (more tag : ℕ) (key : List ℕ) (good : Bool) (value : Lis
         let r = room-within (length (d .buffer)) .0 in
         let e : used (grown kind (d .state) (length new)) - length value ≡ used (d .state) + length front = omega (arith, lengths) in
         ap (λ (i : ℕ). put (put (d .buffer) (used (d .state)) front) i value) e
-        ∙ put-put (d .buffer) (used (d .state)) front value (omega (arith, f .fits))
+        ∙ put-put (d .buffer) (used (d .state)) front value (omega (arith, f .in-room))
         ∙ ap (put (d .buffer) (used (d .state))) joins
 
     filled-is : filled (desk (grown kind (d .state) (length front + length value)) (put (d .buffer) (used (d .state)) front))
@@ -119,7 +119,7 @@ module _ (w : State) (buffer : List ℕ) (more tag : ℕ) (key : List ℕ) (good
         let g : v ≡ grown (a .kind) w (length new) = ap (λ (d : Desk). d .state) (a .is) in
         let u : used v ≡ used w + length new = ap used g ∙ grown-used w (a .kind) (length new) (omega (arith, there w 1 (s .some))) in
         let r = room-within (length buffer) in
-        (omega arith, omega (arith, a .fits, r .0), omega (arith, a .fits, r .1))
+        (omega arith, omega (arith, a .in-room, r .0), omega (arith, a .in-room, r .1))
 
     pub value-put : length b ≡ length buffer → {at : ℕ} → at ≡ used v - size → (texts : List (List ℕ)) → joined texts ≡ value
         → {exit : List ℕ} {end : ℕ} → output exit end ≡ putTexts (output b at) texts

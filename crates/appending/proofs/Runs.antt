@@ -17,9 +17,9 @@ use Rattle.appending.proofs.Filled.{head-refused, value-fits, value-put
 
 -- ---- sizes within every room, and over it
 
-pub within : (n : ℕ) → n ≤ 2147483647 → n ≡ bounded n
+pub bounded-is : (n : ℕ) → n ≤ 2147483647 → n ≡ bounded n
 unfolding bounded
-within n h = rw (le-leb n 2147483647 h)
+bounded-is n h = rw (le-leb n 2147483647 h)
 
 pub over : (n : ℕ) → 2147483647 < n → 2147483648 ≡ bounded n
 unfolding bounded
@@ -48,12 +48,12 @@ module _ (w : State) (buffer : List ℕ) (more tag : ℕ) (key : List ℕ) (good
   bounded-heading : (size : ℕ) → heading w buffer more tag key good (bounded size) ≡ heading w buffer more tag key good size
   unfolding heading headed space
   bounded-heading size =
-      split (leb size 2147483647) (λ t. rw (← within size (leb-true _ _ t)))
+      split (leb size 2147483647) (λ t. rw (← bounded-is size (leb-true _ _ t)))
       (λ t. let h = leb-false size 2147483647 t in
       rw (← over size h, refused-alike 2147483648 size (omega arith) h)
       (ap (leaves (desk w buffer)) (then-same (roomFor w space more key good size) _ _ λ kind e.
       let f = room-says w space more key good size kind e in
-      absurd (omega (arith, f .fits, room-within (length buffer) .1)))))
+      absurd (omega (arith, f .in-room, room-within (length buffer) .1)))))
 
   module _ (p q r s : List ℕ) {size : ℕ} (es : size ≡ bounded (length p + (length q + (length r + length s))))
       {n : ℕ} {v : State} {b : List ℕ} (e : written n v b ≡ heading w buffer more tag key good size) where
@@ -77,7 +77,7 @@ module _ (w : State) (buffer : List ℕ) (more tag : ℕ) (key : List ℕ) (good
       size-is : size ≡ length value
       size-is =
           let f = value-fits w buffer more tag key good value refl is z in
-          bounds ∙ sym (within (length value) (omega arith))
+          bounds ∙ sym (bounded-is (length value) (omega arith))
 
       pub runs-fit : size ≤ used v
       runs-fit = value-fits w buffer more tag key good value size-is e z .0

@@ -124,10 +124,10 @@ pub data Elements : Type 0 where
   nest : Nest → (key : List ℕ) (inner rest : Elements) → Elements
 
 -- elements behind others, and how many there are, those inside them not counted
-abbrev pub behind : Elements → Elements → Elements
-behind none t = t
-behind (leaf key v rest) t = leaf key v (behind rest t)
-behind (nest n key inner rest) t = nest n key inner (behind rest t)
+abbrev pub followedBy : Elements → Elements → Elements
+followedBy none t = t
+followedBy (leaf key v rest) t = leaf key v (followedBy rest t)
+followedBy (nest n key inner rest) t = nest n key inner (followedBy rest t)
 
 abbrev pub count : Elements → ℕ
 count none = 0
@@ -203,7 +203,7 @@ InOrder (nest n key inner rest) = (validCstr key ≡ true) × ((nestGood n ≡ t
 -- a good tree. Every length in it is less than that of the whole, so that one test is enough for all to fit an int32
 pub record Good (t : Elements) : Type 0 where
   pub ordered : InOrder t
-  pub fits : length (treeBytes t) ≤ 0x7FFF_FFFF
+  pub short : length (treeBytes t) ≤ 0x7FFF_FFFF
 
 -- ---- the keys of arrays
 

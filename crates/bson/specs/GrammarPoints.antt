@@ -50,17 +50,17 @@ sizesOf [] = []
 sizesOf (t ∷ ts) = size t ∷ sizesOf ts
 
 -- one value in what holds a document
-abbrev pub within : Nest → Elements
-within n = nest n [] (leaf [] null none) none
+abbrev pub holdingNull : Nest → Elements
+holdingNull n = nest n [] (leaf [] null none) none
 
 pub record GrammarPoints : Type 0 where
   pub bytes : bytesOf (hello ∷ awesome ∷ scoped ∷ []) ≡ written
   -- a value that holds others is one too
   pub sizes : sizesOf (hello ∷ awesome ∷ scoped ∷ []) ≡ 1 ∷ 4 ∷ 2 ∷ []
   -- "inside documents and arrays one more, inside a scope two more"; a value at 200 passes, one at 201 is too deep
-  pub array-at-199 : Shallow 199 (within (embedded array))
-  pub array-at-200 : Shallow 200 (within (embedded array)) → ⊥
-  pub scope-at-198 : Shallow 198 (within (scope []))
-  pub scope-at-199 : Shallow 199 (within (scope [])) → ⊥
+  pub array-at-199 : Shallow 199 (holdingNull (embedded array))
+  pub array-at-200 : Shallow 200 (holdingNull (embedded array)) → ⊥
+  pub scope-at-198 : Shallow 198 (holdingNull (scope []))
+  pub scope-at-199 : Shallow 199 (holdingNull (scope [])) → ⊥
   -- a code is UTF-8
   pub code : nestGood (scope (0xFF ∷ [])) ≡ false

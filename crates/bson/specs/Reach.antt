@@ -28,8 +28,8 @@ abbrev pub start : List ℕ → Level → Spot
 start d l = record { document = d; level = l; position = 0; offset = 4 }
 
 -- behind an element
-abbrev pub behind : Spot → Element → Spot
-behind σ e = record { document = σ .document; level = σ .level; position = suc (σ .position); offset = past e }
+abbrev pub spotBehind : Spot → Element → Spot
+spotBehind σ e = record { document = σ .document; level = σ .level; position = suc (σ .position); offset = past e }
 
 -- at the start of what a value opens
 abbrev pub within : Spot → Bool → ℕ → Part → Spot
@@ -55,7 +55,7 @@ module _ (limit : Limit) where
   -- the spots that one comes to
   pub data Comes (s : List ℕ) : Spot → Type 0 where
     first : Comes s (start s outermost)
-    next : {σ : Spot} (e : Element) → Comes s σ → YieldsAt σ e → Comes s (behind σ e)
+    next : {σ : Spot} (e : Element) → Comes s σ → YieldsAt σ e → Comes s (spotBehind σ e)
     into : {σ : Spot} (v : Value) (isArray : Bool) (levels : ℕ) (p : Part) → Comes s σ
         → readAtUnder limit (σ .document) (σ .offset) ≡ gives v → opening v ≡ opens isArray levels p → Comes s (within σ isArray levels p)
 

@@ -9,8 +9,8 @@ infix 20 _to_
 pub data Range : Type 0 where
   _to_ : ℕ → ℕ → Range
 
-abbrev pub within : Range → ℕ → Bool
-within (a to z) b = leb a b && leb b z
+abbrev pub inRange : Range → ℕ → Bool
+inRange (a to z) b = leb a b && leb b z
 
 abbrev pub tail : Range
 tail = 0x80 to 0xBF
@@ -32,18 +32,18 @@ rows =
 -- what may still come: the ranges left of the row begun, or nothing, since no row fits
 pub data Left : Type 0 where
   bad : Left
-  left : List Range → Left
+  ranges : List Range → Left
 
 -- the row that a first byte begins
 abbrev pub begin : List (List Range) → ℕ → Left
 begin [] b = bad
 begin ([] ∷ more) b = begin more b
-begin ((r ∷ rs) ∷ more) b = cond (within r b) (left rs) (begin more b)
+begin ((r ∷ rs) ∷ more) b = cond (inRange r b) (ranges rs) (begin more b)
 
 abbrev pub next : Left → ℕ → Left
 next bad b = bad
-next (left []) b = begin rows b
-next (left (r ∷ rs)) b = cond (within r b) (left rs) bad
+next (ranges []) b = begin rows b
+next (ranges (r ∷ rs)) b = cond (inRange r b) (ranges rs) bad
 
 abbrev pub read : Left → List ℕ → Left
 read l [] = l
@@ -52,8 +52,8 @@ read l (b ∷ s) = read (next l b) s
 -- no row is left open
 abbrev pub whole : Left → Bool
 whole bad = false
-whole (left []) = true
-whole (left (r ∷ rs)) = false
+whole (ranges []) = true
+whole (ranges (r ∷ rs)) = false
 
 unfoldable pub utf8 : List ℕ → Bool
-utf8 s = whole (read (left []) s)
+utf8 s = whole (read (ranges []) s)

@@ -161,7 +161,7 @@ pub fn of_joined(j: Joined) -> JoinedNumbers
 }
 
 pub fn of_step(s: Step) -> StepNumbers
-    ensures { λ r. ⌜ r ≡ stepped (iter.said s) (iter.behind s) ⌝ }
+    ensures { λ r. ⌜ r ≡ stepped (iter.said s) (iter.cursorBehind s) ⌝ }
 {
     match s {
         Step::Yield { element, next } => {

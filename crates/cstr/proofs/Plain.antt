@@ -11,7 +11,7 @@ use lib.ListN.{length, getD, take, drop, List·getD-eq-default}
 use lib.Seq.{drop-cons, drop-drop, take-length}
 use borrow.Author.Tests.{eq-eqb, ne-eqb, eqb-true, ltb-false, lt-ltb, le-ltb}
 use Rattle.bson.specs.Answer.{gives, refuses}
-use Rattle.bson.specs.Utf8.{utf8, Left, left, read}
+use Rattle.bson.specs.Utf8.{utf8, Left, ranges, read}
 use Rattle.bson.specs.Cstring.{firstZero, zeroText, validCstr}
 use Rattle.laws.proofs.Common.{split}
 use Rattle.laws.proofs.Utf8Laws.{next-ascii}
@@ -91,7 +91,7 @@ plain-first (b ∷ v) e =
     (λ t. let x : b ≡ 0 = rw t at e in rw (t, eq-eqb b 0 x))
     (λ t. let x : getD v (plain v) 0 ≡ 0 = rw t at e in rw (t, passes b t .0, plain-first v x))
 
-plain-read : (v : List ℕ) → read (left []) (take (plain v) v) ≡ left []
+plain-read : (v : List ℕ) → read (ranges []) (take (plain v) v) ≡ ranges []
 plain-read [] = refl
 plain-read (b ∷ v) =
     split (stopsAt b) (λ t. rw t)

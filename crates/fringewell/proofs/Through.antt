@@ -6,7 +6,7 @@ use Rattle.bson.specs.Cstring.{Limit}
 use Rattle.bson.specs.Join as paper
 use Rattle.bson.specs.Step.{Cursor, stepUnder}
 use Rattle.bson.specs.Writer as writer
-use Rattle.iter.specs.Said.{said, behind, Answers}
+use Rattle.iter.specs.Said.{said, cursorBehind, Answers}
 use Rattle.iter.specs.declared.Step.{Step}
 use Rattle.c_answers.specs.Numbers.{joined, stepped, writtenBy}
 use Rattle.c_answers.specs.declared.JoinedNumbers.{JoinedNumbers}
@@ -19,7 +19,7 @@ pub through : {A N : Type 0} (numbers : A → N) {n : N} {x a : A} → x ≡ a �
 through numbers q e = e ∙ ap numbers q
 
 pub step-through : (limit : Limit) (s : List ℕ) (c : Cursor) (r : Step) (n : StepNumbers) → Answers r c (stepUnder limit s c)
-    → n ≡ stepped (said r) (behind r) → n ≡ stepsUnder limit s c
+    → n ≡ stepped (said r) (cursorBehind r) → n ≡ stepsUnder limit s c
 step-through limit s c r n (a, b) e = rw (e, a, b)
 
 pub join-through : (first second buffer : List ℕ) {exit : List ℕ} {o : paper.Outcome} {n : JoinedNumbers}

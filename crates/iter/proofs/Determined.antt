@@ -8,7 +8,7 @@ use Rattle.bson.specs.Answer.{Answer, gives, refuses}
 use Rattle.bson.specs.Step as paper
 use Rattle.laws.proofs.Determined.{Determined, DeterminedPart, injective-by}
 use Rattle.part.proofs.Determined.{unsaidPart}
-use Rattle.iter.specs.Said.{saidElement, saidSizes, said, behind}
+use Rattle.iter.specs.Said.{saidElement, saidSizes, said, cursorBehind}
 use Rattle.iter.specs.declared.Cursor.{Cursor}
 use Rattle.iter.specs.declared.Element.{Element}
 use Rattle.iter.specs.declared.Sizes.{Sizes}
@@ -59,7 +59,7 @@ abbrev Stepped : Type 0
 Stepped = Answer paper.Step × paper.Cursor
 
 abbrev stepped : Step → Stepped
-stepped r = (said r, behind r)
+stepped r = (said r, cursorBehind r)
 
 abbrev unstepped : Stepped → Step
 unstepped (gives (paper.yield e), c) = Yield (unsaidElement e) (unsaidCursor c)

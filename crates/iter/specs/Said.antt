@@ -43,11 +43,11 @@ said (Yield e c) = gives (paper.yield (saidElement e))
 said (End c) = gives paper.end
 said (Refused k p c) = refuses k p
 
-abbrev pub behind : Step → paper.Cursor
-behind (Yield e c) = saidCursor c
-behind (End c) = saidCursor c
-behind (Refused k p c) = saidCursor c
+abbrev pub cursorBehind : Step → paper.Cursor
+cursorBehind (Yield e c) = saidCursor c
+cursorBehind (End c) = saidCursor c
+cursorBehind (Refused k p c) = saidCursor c
 
 -- what a step from a cursor answers, and that the cursor behind it is the one after that answer
 abbrev pub Answers : Step → paper.Cursor → Answer paper.Step → Type 0
-Answers r c a = (said r ≡ a) × (behind r ≡ paper.after c a)
+Answers r c a = (said r ≡ a) × (cursorBehind r ≡ paper.after c a)

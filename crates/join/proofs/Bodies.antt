@@ -40,6 +40,6 @@ module _ (first second buffer : List ℕ) (room : ℕ) (er : room ≡ writer.roo
       let o₂ = then-put (body first) o₁ (e₂ ∙ ap (putText (output b₁ n₁)) (body-part first)) in
       let o₃ = then-put (body second) o₂ (e₃ ∙ ap (putText (output b₂ n₂)) (body-part second)) in
       let o₄ = then-put (0 ∷ []) o₃ e₄ in
-      let within = room-within (length buffer) .0 in
+      let low = room-within (length buffer) .0 in
       rw (le-leb size (writer.room (length buffer)) (rw er at h))
       (ap (joined (wrote size)) (bodies-put first second p q buffer size (output b₄ n₄) refl (omega arith) o₄))

@@ -10,7 +10,7 @@ use native.Mathlib.Omega.{arith}
 use lib.Dec.{ltb}
 use lib.ListN.{length, length-append}
 use borrow.Author.Tests.{lt-ltb, le-ltb, ltb-true, ltb-false, eq-eqb, ne-eqb}
-use Rattle.bson.specs.Utf8.{Left, left, read, whole, utf8}
+use Rattle.bson.specs.Utf8.{Left, ranges, read, whole, utf8}
 use Rattle.bson.specs.Cstring.{firstZero, validCstr}
 use Rattle.bson.specs.Decimal.{digits, widthFor, width, decimal}
 use Rattle.laws.proofs.Common.{split}
@@ -148,7 +148,7 @@ plain-whole : (s : List ℕ) → Plain s → firstZero s ≡ length s
 plain-whole [] p = refl
 plain-whole (b ∷ s) p = let a = p .0 in rw (ne-eqb b 0 (λ e. omega arith)) (ap suc (plain-whole s (p .1 .1)))
 
-plain-read : (s : List ℕ) → Plain s → read (left []) s ≡ left []
+plain-read : (s : List ℕ) → Plain s → read (ranges []) s ≡ ranges []
 plain-read [] p = refl
 plain-read (b ∷ s) p = ap (λ (l : Left). read l s) (next-ascii b (p .1 .0)) ∙ plain-read s (p .1 .1)
 

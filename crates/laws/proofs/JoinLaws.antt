@@ -115,7 +115,7 @@ module _ (first second buffer : List ℕ) where
     pub second-passes : (b : ℕ) × (check false second ≡ gives b)
     pub sum : n ≡ length first + length second - 5
     pub written : take n (done .left) ≡ both first second
-    pub behind : drop n (done .left) ≡ drop n buffer
+    pub stays : drop n (done .left) ≡ drop n buffer
 
   pub join-wrote : (n : ℕ) → done .outcome ≡ wrote n → Wrote n
   unfolding join bothPut sizeOfBoth
@@ -132,7 +132,7 @@ module _ (first second buffer : List ℕ) where
       ∙ size in
       let front : n ≡ 0 + length (both first second) = omega arith in
       let fits = leb-true (length first + length second - 5) (room (length buffer)) t in
-      let within = room-within (length buffer) .0 in
+      let low = room-within (length buffer) .0 in
       let left : done .left ≡ put buffer 0 (both first second) = ap (λ (j : Joined). j .left) (e1 ∙ e2 ∙ e3) in
       record {
         first-passes = (a, q);
@@ -140,5 +140,5 @@ module _ (first second buffer : List ℕ) where
         sum = sym size;
         written =
             rw left (ap (λ (i : ℕ). take i (put buffer 0 (both first second))) front ∙ take-put buffer 0 (both first second) (omega arith));
-        behind = rw left (drop-put buffer 0 (both first second) (omega arith) n (omega arith));
+        stays = rw left (drop-put buffer 0 (both first second) (omega arith) n (omega arith));
       }

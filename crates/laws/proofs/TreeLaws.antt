@@ -6,7 +6,7 @@ use mathlib.Core.Bool.{Bool}
 use native.Mathlib.Nat.{add-zero}
 use native.Mathlib.Omega.{arith}
 use lib.ListN.{length, length-append}
-use Rattle.bson.specs.Grammar.{Item, row, Embedded, embedded, nestTag, nestBytes, Elements, none, leaf, nest, behind, count, elementBytes}
+use Rattle.bson.specs.Grammar.{Item, row, Embedded, embedded, nestTag, nestBytes, Elements, none, leaf, nest, followedBy, count, elementBytes}
 use Rattle.bson.specs.Grammar.{listBytes, treeBytes, Shallow, InOrder, ArrayKeys}
 use Rattle.laws.proofs.GrammarLaws.{length-document, length-element}
 
@@ -14,30 +14,30 @@ use Rattle.laws.proofs.GrammarLaws.{length-document, length-element}
 
 -- ---- elements behind elements
 
-pub behind-none : (t : Elements) → behind t none ≡ t
-behind-none none = refl
-behind-none (leaf key v rest) = ap (leaf key v) (behind-none rest)
-behind-none (nest n key inner rest) = ap (nest n key inner) (behind-none rest)
+pub followed-none : (t : Elements) → followedBy t none ≡ t
+followed-none none = refl
+followed-none (leaf key v rest) = ap (leaf key v) (followed-none rest)
+followed-none (nest n key inner rest) = ap (nest n key inner) (followed-none rest)
 
-pub behind-behind : (a b c : Elements) → behind (behind a b) c ≡ behind a (behind b c)
-behind-behind none b c = refl
-behind-behind (leaf key v rest) b c = ap (leaf key v) (behind-behind rest b c)
-behind-behind (nest n key inner rest) b c = ap (nest n key inner) (behind-behind rest b c)
+pub followed-assoc : (a b c : Elements) → followedBy (followedBy a b) c ≡ followedBy a (followedBy b c)
+followed-assoc none b c = refl
+followed-assoc (leaf key v rest) b c = ap (leaf key v) (followed-assoc rest b c)
+followed-assoc (nest n key inner rest) b c = ap (nest n key inner) (followed-assoc rest b c)
 
-pub count-behind : (t more : Elements) → count (behind t more) ≡ count t + count more
-count-behind none more = omega arith
-count-behind (leaf key v rest) more = omega (arith, count-behind rest more)
-count-behind (nest n key inner rest) more = omega (arith, count-behind rest more)
+pub count-followed : (t more : Elements) → count (followedBy t more) ≡ count t + count more
+count-followed none more = omega arith
+count-followed (leaf key v rest) more = omega (arith, count-followed rest more)
+count-followed (nest n key inner rest) more = omega (arith, count-followed rest more)
 
-pub list-behind : (t more : Elements) → listBytes (behind t more) ≡ listBytes t ++ listBytes more
+pub list-followed : (t more : Elements) → listBytes (followedBy t more) ≡ listBytes t ++ listBytes more
 unfolding listBytes
-list-behind none more = refl
-list-behind (leaf key v rest) more =
+list-followed none more = refl
+list-followed (leaf key v rest) more =
     let e = elementBytes (row v .tag) key (row v .value) in
-    ap (λ (l : List ℕ). e ++ l) (list-behind rest more) ∙ sym (append-assoc e (listBytes rest) (listBytes more))
-list-behind (nest n key inner rest) more =
+    ap (λ (l : List ℕ). e ++ l) (list-followed rest more) ∙ sym (append-assoc e (listBytes rest) (listBytes more))
+list-followed (nest n key inner rest) more =
     let e = elementBytes (nestTag n) key (nestBytes n (treeBytes inner)) in
-    ap (λ (l : List ℕ). e ++ l) (list-behind rest more) ∙ sym (append-assoc e (listBytes rest) (listBytes more))
+    ap (λ (l : List ℕ). e ++ l) (list-followed rest more) ∙ sym (append-assoc e (listBytes rest) (listBytes more))
 
 -- the bytes of elements
 
@@ -87,25 +87,25 @@ count-within (nest n key inner rest) =
 
 -- ---- what makes a tree good
 
-pub ordered-behind : (t more : Elements) → InOrder t → InOrder more → InOrder (behind t more)
-ordered-behind none more g h = h
-ordered-behind (leaf key v rest) more g h = (g .0, (g .1 .0, (g .1 .1 .0, ordered-behind rest more (g .1 .1 .1) h)))
-ordered-behind (nest n key inner rest) more g h = (g .0, (g .1 .0, (g .1 .1 .0, ordered-behind rest more (g .1 .1 .1) h)))
+pub ordered-followed : (t more : Elements) → InOrder t → InOrder more → InOrder (followedBy t more)
+ordered-followed none more g h = h
+ordered-followed (leaf key v rest) more g h = (g .0, (g .1 .0, (g .1 .1 .0, ordered-followed rest more (g .1 .1 .1) h)))
+ordered-followed (nest n key inner rest) more g h = (g .0, (g .1 .0, (g .1 .1 .0, ordered-followed rest more (g .1 .1 .1) h)))
 
-pub shallow-behind : (level : ℕ) (t more : Elements) → Shallow level t → Shallow level more → Shallow level (behind t more)
-shallow-behind level none more g h = h
-shallow-behind level (leaf key v rest) more g h = (g .0, shallow-behind level rest more (g .1) h)
-shallow-behind level (nest n key inner rest) more g h = (g .0, (g .1 .0, shallow-behind level rest more (g .1 .1) h))
+pub shallow-followed : (level : ℕ) (t more : Elements) → Shallow level t → Shallow level more → Shallow level (followedBy t more)
+shallow-followed level none more g h = h
+shallow-followed level (leaf key v rest) more g h = (g .0, shallow-followed level rest more (g .1) h)
+shallow-followed level (nest n key inner rest) more g h = (g .0, (g .1 .0, shallow-followed level rest more (g .1 .1) h))
 
-pub keys-behind : (Asked : ℕ → List ℕ → Type 0) (inArray : Bool) (i : ℕ) (t more : Elements) → ArrayKeys Asked inArray i t
-    → ArrayKeys Asked inArray (i + count t) more → ArrayKeys Asked inArray i (behind t more)
-keys-behind Asked inArray i none more g h = rw add-zero at h
-keys-behind Asked inArray i (leaf key v rest) more g h =
-    (g .0, keys-behind Asked inArray (suc i) rest more (g .1) (subst (λ (k : ℕ). ArrayKeys Asked inArray k more) (omega arith) h))
-keys-behind Asked inArray i (nest n key inner rest) more g h = (
+pub keys-followed : (Asked : ℕ → List ℕ → Type 0) (inArray : Bool) (i : ℕ) (t more : Elements) → ArrayKeys Asked inArray i t
+    → ArrayKeys Asked inArray (i + count t) more → ArrayKeys Asked inArray i (followedBy t more)
+keys-followed Asked inArray i none more g h = rw add-zero at h
+keys-followed Asked inArray i (leaf key v rest) more g h =
+    (g .0, keys-followed Asked inArray (suc i) rest more (g .1) (subst (λ (k : ℕ). ArrayKeys Asked inArray k more) (omega arith) h))
+keys-followed Asked inArray i (nest n key inner rest) more g h = (
   g .0,
   (
     g .1 .0,
-    keys-behind Asked inArray (suc i) rest more (g .1 .1) (subst (λ (k : ℕ). ArrayKeys Asked inArray k more) (omega arith) h),
+    keys-followed Asked inArray (suc i) rest more (g .1 .1) (subst (λ (k : ℕ). ArrayKeys Asked inArray k more) (omega arith) h),
   ),
 )

@@ -6,10 +6,10 @@ use mathlib.Core.Bool.{Bool, true, false, _&&_}
 use native.Mathlib.Omega.{arith}
 use borrow.Author.Tests.{le-leb}
 use lib.Dec.{T, eqb, eqb→eq}
-use Rattle.bson.specs.Utf8.{Range, _to_, tail, rows, left, next}
+use Rattle.bson.specs.Utf8.{Range, _to_, tail, rows, ranges, next}
 use Rattle.laws.proofs.Common.{both-left, both-right}
 
-pub next-ascii : (b : ℕ) → b < 128 → next (left []) b ≡ left []
+pub next-ascii : (b : ℕ) → b < 128 → next (ranges []) b ≡ ranges []
 unfolding rows
 next-ascii b h = rw (le-leb 0 b (omega arith), le-leb b 127 (omega arith))
 

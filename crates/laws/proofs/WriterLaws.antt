@@ -94,8 +94,8 @@ innermost-gives d kind i = rw (i .can, lt-ltb _ _ (i .some)) (i .kinded)
 pub record DeskSizes (d : Desk) (kind : Kind) : Type 0 where
   pub some : 0 < depth (d .state)
   pub most : depth (d .state) ≤ 202
-  pub fits : used (d .state) + depth (d .state) ≤ roomOf d
-  pub within : used (d .state) + depth (d .state) ≤ length (d .buffer)
+  pub in-room : used (d .state) + depth (d .state) ≤ roomOf d
+  pub in-buffer : used (d .state) + depth (d .state) ≤ length (d .buffer)
   pub small : used (d .state) + depth (d .state) ≤ 2147483647
   pub begun : start (d .state) (depth (d .state) - 1) + 4 ≤ used (d .state)
   pub counted : kindHolds (used (d .state)) kind ≡ true
@@ -113,8 +113,8 @@ desk-sizes d kind i =
     record {
       some = i .some;
       most = a;
-      fits = b;
-      within = omega arith;
+      in-room = b;
+      in-buffer = omega arith;
       small = omega arith;
       begun = x;
       counted = subst (λ (k : Answer Kind). passes (kindHolds (used w)) k ≡ true) (i .kinded) y;
@@ -126,7 +126,7 @@ pub record Room (w : State) (space more : ℕ) (key : List ℕ) (good : Bool) (s
   pub low : nextDepth w ≤ 200
   pub keyed : keyPasses kind key ≡ true
   pub valued : good ≡ true
-  pub fits : used w + (2 + length (keyIn kind key) + size) + (depth w + more) ≤ space
+  pub in-room : used w + (2 + length (keyIn kind key) + size) + (depth w + more) ≤ space
 
 module _ (w : State) (space more : ℕ) (key : List ℕ) (good : Bool) (size : ℕ) (kind : Kind) where
   pub room-says : roomFor w space more key good size ≡ gives kind → Room w space more key good size kind
@@ -138,11 +138,11 @@ module _ (w : State) (space more : ℕ) (key : List ℕ) (good : Bool) (size : �
       let (c, h4) = unless-gives (leb (used w + (2 + length (keyIn k key) + size) + (depth w + more)) space) 14 _ h3 in
       let (p, g) = both-hold (keyPasses k key) good b in
       subst (Room w space more key good size) (gives-injective h4)
-      (record { inner = i; low = leb-true _ _ a; keyed = p; valued = g; fits = leb-true _ _ c })
+      (record { inner = i; low = leb-true _ _ a; keyed = p; valued = g; in-room = leb-true _ _ c })
 
   pub room-gives : Room w space more key good size kind → roomFor w space more key good size ≡ gives kind
   unfolding roomFor
-  room-gives r = rw (r .inner, le-leb _ _ (r .low), r .keyed, r .valued, le-leb _ _ (r .fits))
+  room-gives r = rw (r .inner, le-leb _ _ (r .low), r .keyed, r .valued, le-leb _ _ (r .in-room))
 
 -- ---- an element more
 
@@ -156,7 +156,7 @@ pub record Appended (d : Desk) (more tag : ℕ) (key : List ℕ) (good : Bool) (
   pub low : nextDepth (d .state) ≤ 200
   pub keyed : keyPasses kind key ≡ true
   pub valued : good ≡ true
-  pub fits : used (d .state) + length (elementBytes tag (keyIn kind key) value) + (depth (d .state) + more) ≤ roomOf d
+  pub in-room : used (d .state) + length (elementBytes tag (keyIn kind key) value) + (depth (d .state) + more) ≤ roomOf d
   pub is : e ≡ taken d kind (elementBytes tag (keyIn kind key) value)
 
 module _ (d : Desk) (more tag : ℕ) (key : List ℕ) (good : Bool) (value : List ℕ) (e : Desk) where
@@ -172,7 +172,7 @@ module _ (d : Desk) (more tag : ℕ) (key : List ℕ) (good : Bool) (value : Lis
         low = r .low;
         keyed = r .keyed;
         valued = r .valued;
-        fits = omega (arith, r .fits, l);
+        in-room = omega (arith, r .in-room, l);
         is = sym (gives-injective h1);
       }
 
@@ -185,7 +185,7 @@ module _ (d : Desk) (more tag : ℕ) (key : List ℕ) (good : Bool) (value : Lis
         low = a .low;
         keyed = a .keyed;
         valued = a .valued;
-        fits = omega (arith, a .fits, l);
+        in-room = omega (arith, a .in-room, l);
       }) in
       rw r (ap gives (sym (a .is)))
 
@@ -214,7 +214,7 @@ module _ (d : Desk) (n : Embedded) (key : List ℕ) (e : Desk) where
 pub record Topped (d e : Desk) : Type 0 where
   pub can : possible (d .state) (roomOf d) ≡ true
   pub nothing : depth (d .state) ≡ 0
-  pub fits : 5 ≤ roomOf d
+  pub in-room : 5 ≤ roomOf d
   pub is : e ≡ desk (pushed (set (d .state) 0 4) (markOf document)) (put (d .buffer) 0 (bytes32 5))
 
 module _ (d e : Desk) where
@@ -224,11 +224,11 @@ module _ (d e : Desk) where
       let (a, h1) = unless-gives (possible (d .state) (roomOf d) && eqb (depth (d .state)) 0) 18 _ h in
       let (b, h2) = unless-gives (leb 5 (roomOf d)) 14 _ h1 in
       let (p, z) = both-hold (possible (d .state) (roomOf d)) _ a in
-      record { can = p; nothing = eqb-true _ _ z; fits = leb-true _ _ b; is = sym (gives-injective h2) }
+      record { can = p; nothing = eqb-true _ _ z; in-room = leb-true _ _ b; is = sym (gives-injective h2) }
 
   pub topped-gives : Topped d e → openedTop d ≡ gives e
   unfolding openedTop
-  topped-gives t = rw (t .can, eq-eqb _ _ (t .nothing), le-leb _ _ (t .fits)) (ap gives (sym (t .is)))
+  topped-gives t = rw (t .can, eq-eqb _ _ (t .nothing), le-leb _ _ (t .in-room)) (ap gives (sym (t .is)))
 
 -- ---- the innermost closed
 
@@ -281,7 +281,7 @@ appended-behind d more tag key good value e h a =
     let new = elementBytes tag (keyIn (a .kind) key) value in
     let (r, s) = room-within (length (d .buffer)) in
     let u = grown-used (d .state) (a .kind) (length new) (omega arith) in
-    subst (BytesStay d) (sym (a .is)) (put-behind d _ (used (d .state)) new (omega (arith, a .fits)) (omega arith) (omega arith))
+    subst (BytesStay d) (sym (a .is)) (put-behind d _ (used (d .state)) new (omega (arith, a .in-room)) (omega arith) (omega arith))
 
 topped-behind : (d e : Desk) → length (d .state) ≡ 406 → Topped d e → BytesStay d e
 topped-behind d e h t =
@@ -291,7 +291,7 @@ topped-behind d e h t =
     let w = set (d .state) 0 4 in
     let u = pushed-used w (length-set (d .state) 0 4 ∙ h) (markOf document) in
     let v : used w ≡ 4 = getD-set-same (d .state) 0 4 0 (omega arith) in
-    subst (BytesStay d) (sym (t .is)) (put-behind d _ 0 (bytes32 5) (omega (arith, t .fits)) (omega arith) (omega arith))
+    subst (BytesStay d) (sym (t .is)) (put-behind d _ 0 (bytes32 5) (omega (arith, t .in-room)) (omega arith) (omega arith))
 
 -- the zero, and then the length
 closed-behind : (d e : Desk) → length (d .state) ≡ 406 → Closed d e → BytesStay d e
@@ -301,9 +301,9 @@ closed-behind d e h c =
     let s = desk-sizes d (c .kind) (innermost-says d (c .kind) (c .inner)) in
     let l = length-bytes32 (used w + 1 - at) in
     let u = popped-used w h in
-    let zero = put-behind d (popped w) (used w) (0 ∷ []) (omega (arith, s .within, s .some)) (omega arith) (omega arith) in
+    let zero = put-behind d (popped w) (used w) (0 ∷ []) (omega (arith, s .in-buffer, s .some)) (omega arith) (omega arith) in
     let ended = desk w (put (d .buffer) (used w) (0 ∷ [])) in
-    let whole = put-behind ended (popped w) at (bytes32 (used w + 1 - at)) (omega (arith, s .begun, s .within, zero .long))
+    let whole = put-behind ended (popped w) at (bytes32 (used w + 1 - at)) (omega (arith, s .begun, s .in-buffer, zero .long))
     (omega (arith, s .begun))
     (omega arith) in
     subst (BytesStay d) (sym (c .is)) (record { same = whole .same ∙ zero .same; long = whole .long ∙ zero .long; more = zero .more })

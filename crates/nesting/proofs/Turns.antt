@@ -118,7 +118,7 @@ module _ (w : State) (buffer : List ℕ) (m : ℕ) (em : m ≡ room (length buff
     closable = (known .some, known .most)
 
     pub ends-within : (start w (depth w - 1) + 4 ≤ used w) × (used w < length buffer) × (used w < 2147483647)
-    ends-within = (known .begun, omega (arith, known .some, known .within), omega (arith, known .some, known .small))
+    ends-within = (known .begun, omega (arith, known .some, known .in-buffer), omega (arith, known .some, known .small))
 
     pub close-done : (u s : ℕ) → u ≡ used w → s ≡ start w (depth w - 1) → (exit : List ℕ)
         → exit ≡ put (put buffer u (0 ∷ [])) s (bytes32 (u + 1 - s)) → (v : State) → v ≡ popped w

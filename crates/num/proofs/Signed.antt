@@ -23,9 +23,9 @@ module _ (w : Width) (half x k : ℕ) (high : half ≤ x) (small : k < 2 ^ hbits
   value : negsuc 0 -ℤ toZ w k ≡ negsuc k
   value = rw (toZ-pos w k small) (minus-one k)
 
-  pub fits : SFits w (negsuc 0 -ℤ toZ w k)
-  fits = rw value (record { sfits = small })
+  pub difference-fits : SFits w (negsuc 0 -ℤ toZ w k)
+  difference-fits = rw value (record { sfits = small })
 
   pub back : toZ w (ofZ w (negsuc 0 -ℤ toZ w k)) ≡ signed half x
   unfolding signed
-  back = rw (le-ltb x half high) (toZ-ofZ w (negsuc 0 -ℤ toZ w k) fits ∙ value ∙ ap negsuc is)
+  back = rw (le-ltb x half high) (toZ-ofZ w (negsuc 0 -ℤ toZ w k) difference-fits ∙ value ∙ ap negsuc is)

@@ -8,7 +8,7 @@ use lib.ListN.{length, take}
 use Rattle.bson.specs.Answer.{Answer, gives, refuses}
 use Rattle.bson.specs.Check.{check}
 use Rattle.bson.specs.Decimal.{decimal}
-use Rattle.bson.specs.Grammar.{Embedded, document, embedded, scope, isArray, Elements, none, leaf, nest, behind, count, treeBytes, size}
+use Rattle.bson.specs.Grammar.{Embedded, document, embedded, scope, isArray, Elements, none, leaf, nest, followedBy, count, treeBytes, size}
 use Rattle.bson.specs.Grammar.{Shallow, Fitting, Good, Numbered}
 use Rattle.bson.specs.Meaning.{Means}
 use Rattle.bson.specs.Writer.{fresh, used, depth, Desk, desk, Call, openTop, close, append, openNest, answer}
@@ -31,7 +31,7 @@ pub data Building : Type 0 where
   built : Elements → Building
 
 abbrev pub with : Open → Elements → Open
-with o t = openOf (o .nest) (o .key) (behind (o .inside) t)
+with o t = openOf (o .nest) (o .key) (followedBy (o .inside) t)
 
 -- "inside an array it makes the keys itself, 0, 1, 2 on in decimal"
 abbrev pub keyFor : Open → List ℕ → List ℕ

@@ -8,7 +8,7 @@ use native.Mathlib.Omega.{arith}
 use lib.Dec.{T, eqb, ltb, eqb→eq, ltb→lt}
 use lib.ListN.{length, getD, drop, drop-of-length-le}
 use lib.Seq.{drop-cons}
-use Rattle.bson.specs.Utf8.{Range, Left, bad, left, next, read, whole, utf8}
+use Rattle.bson.specs.Utf8.{Range, Left, bad, ranges, next, read, whole, utf8}
 use Rattle.laws.proofs.Common.{both-left, both-right, beq-eq, below, below-at}
 use Rattle.laws.proofs.Utf8Laws.{leftovers, sameRanges, same-ranges-eq}
 use Rattle.utf8.specs.Moves.{classOf, moveOf}
@@ -18,7 +18,7 @@ use Rattle.utf8.specs.Moves.{classOf, moveOf}
 -- what is left in each state: a state is six times a number, that of what may be left, and behind all of these no row fits
 abbrev numbered : List (List Range) → ℕ → Left
 numbered [] k = bad
-numbered (rs ∷ more) zero = left rs
+numbered (rs ∷ more) zero = ranges rs
 numbered (rs ∷ more) (suc k) = numbered more k
 
 abbrev leftOf : ℕ → Left
@@ -26,15 +26,15 @@ leftOf k = numbered leftovers k
 
 abbrev sameLeft : Left → Left → Bool
 sameLeft bad bad = true
-sameLeft bad (left ys) = false
-sameLeft (left xs) bad = false
-sameLeft (left xs) (left ys) = sameRanges xs ys
+sameLeft bad (ranges ys) = false
+sameLeft (ranges xs) bad = false
+sameLeft (ranges xs) (ranges ys) = sameRanges xs ys
 
 same-left-eq : (x y : Left) → T (sameLeft x y) → x ≡ y
 same-left-eq bad bad t = refl
-same-left-eq bad (left ys) t = absurd t
-same-left-eq (left xs) bad t = absurd t
-same-left-eq (left xs) (left ys) t = ap left (same-ranges-eq xs ys t)
+same-left-eq bad (ranges ys) t = absurd t
+same-left-eq (ranges xs) bad t = absurd t
+same-left-eq (ranges xs) (ranges ys) t = ap ranges (same-ranges-eq xs ys t)
 
 -- x is a state, and in it is left what l says
 abbrev isState : ℕ → Left → Bool
@@ -101,13 +101,13 @@ pub record Going (s c m : List ℕ) (state i : ℕ) : Type 0 where
 pub going-start : {s c m : List ℕ} → Right c m → Going s c m 0 0
 unfolding utf8
 going-start t =
-    let none : Runs 0 (left []) = record { k = 0; few = omega arith; is = refl; leaves = refl } in
-    record { right = t; l = left []; runs = none; inside = omega arith; same = refl }
+    let none : Runs 0 (ranges []) = record { k = 0; few = omega arith; is = refl; leaves = refl } in
+    record { right = t; l = ranges []; runs = none; inside = omega arith; same = refl }
 
 pub going-class : {s c m : List ℕ} {state i : ℕ} (b : ℕ) → Going s c m state i → b < 256 → classOf c b < 12
 going-class {c = c} {m} b g h =
     let x = moveOf c m 0 b % 64 in
-    ltb→lt (classOf c b) 12 (both-left (ltb (classOf c b) 12) (isState x (next (left []) b)) (table-right (g .right) 0 b (omega arith) h))
+    ltb→lt (classOf c b) 12 (both-left (ltb (classOf c b) 12) (isState x (next (ranges []) b)) (table-right (g .right) 0 b (omega arith) h))
 
 pub going-on : {s c m : List ℕ} {state i x : ℕ} → Going s c m state i → i < length s → getD s i 0 < 256
     → x ≡ moveOf c m (state % 64) (getD s i 0)

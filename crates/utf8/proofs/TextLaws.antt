@@ -9,7 +9,7 @@ use lib.Dec.{T, ltb, ltb→lt}
 use lib.ListN.{length, take, drop, take-append-drop}
 use lib.Seq.{drop-drop}
 use borrow.Author.Tests.{lt-ltb}
-use Rattle.bson.specs.Utf8.{utf8, Left, left, read, whole}
+use Rattle.bson.specs.Utf8.{utf8, Left, ranges, read, whole}
 use Rattle.laws.proofs.Common.{rest-part, both-left, both-right}
 use Rattle.laws.proofs.Utf8Laws.{next-ascii}
 use Rattle.utf8.specs.Ascii.{asciiOf}
@@ -23,7 +23,7 @@ pub at-rest : {s : List ℕ} {i : ℕ} {r : Bool} → At s i → r ≡ utf8 (tak
 at-rest {s} {i} a e = e ∙ ap utf8 (rest-part s i) ∙ a .same
 
 -- a block of ASCII
-ascii-read : (v w : List ℕ) → T (asciiOf v) → read (left []) (v ++ w) ≡ read (left []) w
+ascii-read : (v w : List ℕ) → T (asciiOf v) → read (ranges []) (v ++ w) ≡ read (ranges []) w
 ascii-read [] w t = refl
 ascii-read (b ∷ v) w t =
     let h = ltb→lt b 128 (both-left (ltb b 128) (asciiOf v) t) in
@@ -45,7 +45,7 @@ at-block {s} {i} n m l a h e =
     let z : i + m - i ≡ m = omega arith in
     let v = drop i s in
     let r = ascii-read (take n v) (drop n v) (ascii-take n m v l (rw (← z, e) tt)) in
-    let d : read (left []) v ≡ read (left []) (drop (i + n) s) = rw (take-append-drop n v, drop-drop n i s) at r in
+    let d : read (ranges []) v ≡ read (ranges []) (drop (i + n) s) = rw (take-append-drop n v, drop-drop n i s) at r in
     record { inside = omega arith; same = ap whole (sym d) ∙ a .same }
 
 -- the last eight bytes are ASCII, and i is one of their offsets or the end

@@ -10,7 +10,7 @@ use lib.ListN.{length, getD, drop, drop-of-length-le, List·getD-eq-default}
 use lib.Seq.{drop-cons}
 use borrow.Author.Tests.{ltb-true, ltb-false}
 use Rattle.bson.specs.Bytes.{AreBytes}
-use Rattle.bson.specs.Utf8.{Range, _to_, rows, Left, bad, left, next, read, whole, utf8}
+use Rattle.bson.specs.Utf8.{Range, _to_, rows, Left, bad, ranges, next, read, whole, utf8}
 use Rattle.laws.proofs.Common.{split, both-left, both-right, beq-eq, below, below-at}
 use Rattle.laws.proofs.Utf8Laws.{leftovers, sameList}
 use Rattle.utf8.specs.Window.{asked, strayBehind, stray}
@@ -40,28 +40,28 @@ shift m b = (ltb 0xBF b || mark m 1) ∷ (ltb 0xDF b || mark m 2) ∷ ltb 0xEF b
 -- the bytes so far: one was stray and no row fits, or none was, and p, q, o, the nearest first, say what is left
 pub data After : Left → Bool → ℕ → ℕ → ℕ → Type 0 where
   fell : {p q o : ℕ} → After bad true p q o
-  fits : {rs : List Range} {p q o : ℕ} → T (among rs leftovers) → marks p q o ≡ marksLeft rs → After (left rs) false p q o
+  row-fits : {rs : List Range} {p q o : ℕ} → T (among rs leftovers) → marks p q o ≡ marksLeft rs → After (ranges rs) false p q o
 
 -- ---- computed, for each byte
 
 -- computed at all that may be left and every byte
 abbrev goes : List Bool → ℕ → Left → Bool
 goes m b bad = strayBy m b
-goes m b (left rs) = not (strayBy m b) && (among rs leftovers && sameList Bool·beq (shift m b) (marksLeft rs))
+goes m b (ranges rs) = not (strayBy m b) && (among rs leftovers && sameList Bool·beq (shift m b) (marksLeft rs))
 
 abbrev goesAll : List Range → Bool
-goesAll rs = below (λ b. goes (marksLeft rs) b (next (left rs) b)) 256
+goesAll rs = below (λ b. goes (marksLeft rs) b (next (ranges rs) b)) 256
 
-goes-at : (rs : List Range) (b : ℕ) → T (among rs leftovers) → b < 256 → T (goes (marksLeft rs) b (next (left rs) b))
+goes-at : (rs : List Range) (b : ℕ) → T (among rs leftovers) → b < 256 → T (goes (marksLeft rs) b (next (ranges rs) b))
 unfolding rows
-goes-at rs b k h = below-at (λ b. goes (marksLeft rs) b (next (left rs) b)) 256 (every-at goesAll leftovers rs tt k) b h
+goes-at rs b k h = below-at (λ b. goes (marksLeft rs) b (next (ranges rs) b)) 256 (every-at goesAll leftovers rs tt k) b h
 
 -- a zero byte leaves the verdict as it is, and is stray exactly where a row is open
 abbrev zeroSame : List Range → Bool
-zeroSame rs = Bool·beq (whole (next (left rs) 0)) (whole (left rs))
+zeroSame rs = Bool·beq (whole (next (ranges rs) 0)) (whole (ranges rs))
 
 abbrev zeroTells : List Range → Bool
-zeroTells rs = Bool·beq (not (strayBy (marksLeft rs) 0)) (whole (left rs))
+zeroTells rs = Bool·beq (not (strayBy (marksLeft rs) 0)) (whole (ranges rs))
 
 -- ---- one byte more
 
@@ -71,26 +71,26 @@ marked b p q o e = ap (λ (x : List Bool). strayBy x b) e
 
 turned : (m : List Bool) (b p q o : ℕ) (l : Left) → marks p q o ≡ m → T (goes m b l) → After l (stray b p q o) b p q
 turned m b p q o bad e t = rw (marked b p q o e, holds (strayBy m b) t) fell
-turned m b p q o (left rs) e t =
+turned m b p q o (ranges rs) e t =
     let same = sameList Bool·beq (shift m b) (marksLeft rs) in
     let u = both-right (not (strayBy m b)) (among rs leftovers && same) t in
     let says = same-bools-eq (shift m b) (marksLeft rs) (both-right (among rs leftovers) same u) in
     rw (marked b p q o e, fails (strayBy m b) (both-left (not (strayBy m b)) (among rs leftovers && same) t))
-    (fits (both-left (among rs leftovers) same u) (ap (λ (x : List Bool). shift x b) e ∙ says))
+    (row-fits (both-left (among rs leftovers) same u) (ap (λ (x : List Bool). shift x b) e ∙ says))
 
 after-next : {l : Left} {any : Bool} {p q o : ℕ} (b : ℕ) → b < 256 → After l any p q o → After (next l b) (any || stray b p q o) b p q
 after-next b h fell = fell
-after-next {p = p} {q} {o} b h (fits {rs} k e) = turned (marksLeft rs) b p q o (next (left rs) b) e (goes-at rs b k h)
+after-next {p = p} {q} {o} b h (row-fits {rs} k e) = turned (marksLeft rs) b p q o (next (ranges rs) b) e (goes-at rs b k h)
 
 zero-same : {l : Left} {any : Bool} {p q o : ℕ} → After l any p q o → whole (next l 0) ≡ whole l
 unfolding rows
 zero-same fell = refl
-zero-same (fits {rs} k e) = beq-eq (whole (next (left rs) 0)) (whole (left rs)) (every-at zeroSame leftovers rs tt k)
+zero-same (row-fits {rs} k e) = beq-eq (whole (next (ranges rs) 0)) (whole (ranges rs)) (every-at zeroSame leftovers rs tt k)
 
 zero-tells : {l : Left} {any : Bool} {p q o : ℕ} → After l any p q o → not (any || stray 0 p q o) ≡ whole l
 zero-tells fell = refl
-zero-tells {p = p} {q} {o} (fits {rs} k e) =
-    rw (marked 0 p q o e) (beq-eq (not (strayBy (marksLeft rs) 0)) (whole (left rs)) (every-at zeroTells leftovers rs tt k))
+zero-tells {p = p} {q} {o} (row-fits {rs} k e) =
+    rw (marked 0 p q o e) (beq-eq (not (strayBy (marksLeft rs) 0)) (whole (ranges rs)) (every-at zeroTells leftovers rs tt k))
 
 -- ---- the loop
 
@@ -119,7 +119,7 @@ pub went-start : {s : List ℕ} {a b c : ℕ} {x y z : Bool} → AreBytes s
     → Went s ((x || y) || z) 3 (getD s 2 0) (getD s 1 0) (getD s 0 0)
 unfolding utf8
 went-start {s} k ea eb ec ex ey ez =
-    let none : Went s false 0 0 0 0 = record { l = left []; after = fits tt refl; same = refl } in
+    let none : Went s false 0 0 0 0 = record { l = ranges []; after = row-fits tt refl; same = refl } in
     rw (ex, ey, ez, ea, eb, ec) (went-on k (went-on k (went-on k none)))
 
 -- a turn of the loop: the last three bytes are those before j

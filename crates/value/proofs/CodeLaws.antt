@@ -40,11 +40,11 @@ module _ {A B : Type 0} (n : ℕ) (f : ℕ → Answer B) where
   tested true true (refuses k p) = refl
 
 module _ {A B : Type 0} (u l : ℕ → Bool) (a : ℕ → Answer A) (f : ℕ → Answer B) where
-  behind : (b : Bool) (s : Answer ℕ) → unless b 12 (then s λ n. unless (u n) 6 (unless (l n) 12 (then (a n) λ _. f n)))
+  in-order : (b : Bool) (s : Answer ℕ) → unless b 12 (then s λ n. unless (u n) 6 (unless (l n) 12 (then (a n) λ _. f n)))
       ≡ then (unless b 12 (then s λ n. unless (u n) 6 (then (unless (l n) 12 (a n)) λ _. gives n))) f
-  behind false s = refl
-  behind true (refuses k p) = refl
-  behind true (gives n) = tested n f (u n) (l n) (a n)
+  in-order false s = refl
+  in-order true (refuses k p) = refl
+  in-order true (gives n) = tested n f (u n) (l n) (a n)
 
 -- code and scope by the size of the code
 abbrev pub codeAndScope : Part → ℕ → Answer Value
@@ -53,5 +53,5 @@ codeAndScope p n = gives (codeWithScope (part (p .offset + 8) (n - 5)) (trim (4 
 pub scope-value : (v : List ℕ) (p : Part) → scopeValue v p ≡ then (codeSize v) (codeAndScope p)
 unfolding scopeValue codeSize scopeAt
 scope-value v p =
-    behind (λ n. utf8 (bytes v (part 8 (n - 5)))) (λ n. ltb (4 + n) (length v)) (λ n. admitted (drop (4 + n) v)) (codeAndScope p)
+    in-order (λ n. utf8 (bytes v (part 8 (n - 5)))) (λ n. ltb (4 + n) (length v)) (λ n. admitted (drop (4 + n) v)) (codeAndScope p)
     (leb 14 (length v)) (stringSize (drop 4 v))

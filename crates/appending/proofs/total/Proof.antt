@@ -1,6 +1,6 @@
 -- `appending::total` meets its contract: no sum is made that could pass the largest number.
 use native.Mathlib.Omega.{arith}
-use Rattle.appending.proofs.Runs.{within, over}
+use Rattle.appending.proofs.Runs.{bounded-is, over}
 use borrow.Author.Needs.{needs}
 use Rattle.appending.proofs.total.Statement.{statement}
 use Rattle.appending.proofs.total.Tie as tie
@@ -21,7 +21,7 @@ returns-5 : tie.Need-returns-5
 returns-5 c = over _ (omega arith)
 
 returns-6 : tie.Need-returns-6
-returns-6 c = within _ (omega arith)
+returns-6 c = bounded-is _ (omega arith)
 
 pub total-spec : {M : Type 1} → statement M
 total-spec =

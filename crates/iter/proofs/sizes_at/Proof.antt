@@ -37,8 +37,8 @@ module _ (s : List ℕ) (n offset : ℕ) (a : admitted s ≡ gives n) where
     before : offset < 4 → stepUnder limit s (cursor offset false) ≡ refuses 4 offset
     before h = step-outside limit s n a offset (rw (lt-leb 4 offset h))
 
-    behind : n - 1 ≤ offset → (offset ≡ n - 1 → ⊥) → stepUnder limit s (cursor offset false) ≡ refuses 4 offset
-    behind h e =
+    past-end : n - 1 ≤ offset → (offset ≡ n - 1 → ⊥) → stepUnder limit s (cursor offset false) ≡ refuses 4 offset
+    past-end h e =
         let l = last in
         let f = admitted-says s n a .0 in
         step-outside limit s n a offset (rw (le-leb 4 offset (omega arith), lt-leb offset (terminator s) (omega arith)))
@@ -72,7 +72,7 @@ returns-4 c =
     sym (step-unadmitted _ _ _ _ _ (answered saidLength (c .before .before .before .admit .ensures) (c .before .number .given .1)))
 
 returns-5 : tie.Need-returns-5
-returns-5 c = sym (behind _ _ _ (told (c .before .before .before)) _ (c .before .if1 .left) (c .if3 .left))
+returns-5 c = sym (past-end _ _ _ (told (c .before .before .before)) _ (c .before .if1 .left) (c .if3 .left))
 
 pub sizes-at-spec : {M : Type 1} → statement M
 sizes-at-spec =

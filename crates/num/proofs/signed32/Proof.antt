@@ -3,7 +3,7 @@ use mathlib.Core.Path.{refl}
 use native.Mathlib.Omega.{arith}
 use Prim.Native.Nat.{_-_}
 use mir.Syntax.{w32}
-use Rattle.num.proofs.Signed.{low, fits, back}
+use Rattle.num.proofs.Signed.{low, difference-fits, back}
 use borrow.Author.Needs.{needs}
 use Rattle.num.proofs.signed32.Statement.{statement}
 use Rattle.num.proofs.signed32.Tie as tie
@@ -12,7 +12,7 @@ cast-result-2 : tie.Need-cast-result-2
 cast-result-2 c = search needs
 
 sub-result-2 : tie.Need-sub-result-2
-sub-result-2 c = fits w32 0x8000_0000 (c .before .args .x) (4294967295 - c .before .args .x) (omega arith) (omega arith) (omega arith)
+sub-result-2 c = difference-fits w32 0x8000_0000 (c .before .args .x) (4294967295 - c .before .args .x) (omega arith) (omega arith) (omega arith)
 
 returns : tie.Need-returns
 returns c = low w32 0x8000_0000 (c .before .args .x) refl (c .if1 .taken)

@@ -3,14 +3,14 @@ use mathlib.Core.Path.{refl}
 use native.Mathlib.Omega.{arith}
 use Prim.Native.Nat.{_-_}
 use mir.Syntax.{w64}
-use Rattle.num.proofs.Signed.{low, fits, back}
+use Rattle.num.proofs.Signed.{low, difference-fits, back}
 use borrow.Author.Needs.{needs}
 use Rattle.num.proofs.signed64.Statement.{statement}
 use Rattle.num.proofs.signed64.Tie as tie
 
 sub-result-2 : tie.Need-sub-result-2
 sub-result-2 c =
-    fits w64 0x8000_0000_0000_0000 (c .before .args .x) (18446744073709551615 - c .before .args .x) (omega arith) (omega arith)
+    difference-fits w64 0x8000_0000_0000_0000 (c .before .args .x) (18446744073709551615 - c .before .args .x) (omega arith) (omega arith)
     (omega arith)
 
 returns : tie.Need-returns

@@ -43,7 +43,7 @@ loop-less : tie.Need-loop-less Inv-loop μ-loop
 loop-less c =
     let b = c .before .before .before .before .before in
     let y = answered step.said (b .before .before .next .ensures .0) (b .element .given .1) in
-    let n = next-lands _ _ _ y (sym (b .before .before .next .ensures .1) ∙ ap step.behind (b .element .given .1)) in
+    let n = next-lands _ _ _ y (sym (b .before .before .next .ensures .1) ∙ ap step.cursorBehind (b .element .given .1)) in
     let w = step-yields _ _ _ _ y in
     omega arith
 
@@ -52,7 +52,7 @@ loop-again c =
     let b = c .before .before .before .before .before in
     let l = b .before .before .before .loop in
     let y = answered step.said (b .before .before .next .ensures .0) (b .element .given .1) in
-    let n = next-lands _ _ _ y (sym (b .before .before .next .ensures .1) ∙ ap step.behind (b .element .given .1)) in
+    let n = next-lands _ _ _ y (sym (b .before .before .next .ensures .1) ∙ ap step.cursorBehind (b .element .given .1)) in
     let p = c .before .before .put-element in
     (p .kept .0 ∙ l .inv .0, rw (n, p .ensures) (sym (lines-onward _ _ _ _ y) ∙ l .inv .1))
 

@@ -13,7 +13,7 @@ use Rattle.bson.specs.Bytes.{Part}
 use Rattle.bson.specs.Step.{cursor, Element, past, end, stepUnder}
 use Rattle.bson.specs.Value.{Value, valueOf, readAtUnder}
 use Rattle.bson.specs.Level.{Opening, closed, opens, opening, outermost}
-use Rattle.bson.specs.Reach.{Spot, start, behind, within, YieldsAt, Comes, first, next, into, placeOf, Rising, Number}
+use Rattle.bson.specs.Reach.{Spot, start, spotBehind, within, YieldsAt, Comes, first, next, into, placeOf, Rising, Number}
 use Rattle.laws.proofs.AnswerLaws.{gives-injective}
 use Rattle.laws.proofs.ReadLaws.{read-step, read-says}
 use Rattle.laws.proofs.StepLaws.{step-yields}
@@ -30,7 +30,7 @@ module _ (limit : Limit) where
   -- from one spot one comes to another; `Comes` grows at its far end, this at the near one, where a walk begins
   data Leads : Spot → Spot → Type 0 where
     here : {σ : Spot} → Leads σ σ
-    on : {σ τ : Spot} (e : Element) → YieldsAt limit σ e → Leads (behind σ e) τ → Leads σ τ
+    on : {σ τ : Spot} (e : Element) → YieldsAt limit σ e → Leads (spotBehind σ e) τ → Leads σ τ
     down : {σ τ : Spot} (v : Value) (isArray : Bool) (levels : ℕ) (p : Part) → readAtUnder limit (σ .document) (σ .offset) ≡ gives v
         → opening v ≡ opens isArray levels p → Leads (within σ isArray levels p) τ → Leads σ τ
 
@@ -55,14 +55,14 @@ module _ (limit : Limit) where
 
   -- where a value stands one stays, goes inside it, or goes behind it
   module _ {σ : Spot} (e : Element) (y : YieldsAt limit σ e) (v : Value) (x : valueOf (σ .document) e ≡ gives v) where
-    leads-cases : {τ : Spot} (o : Opening) → opening v ≡ o → Leads σ τ → ((τ ≡ σ) ⊎ Inside σ o τ) ⊎ Leads (behind σ e) τ
+    leads-cases : {τ : Spot} (o : Opening) → opening v ≡ o → Leads σ τ → ((τ ≡ σ) ⊎ Inside σ o τ) ⊎ Leads (spotBehind σ e) τ
     leads-cases o q here = inl (inl refl)
-    leads-cases {τ} o q (on f z l) = inr (subst (λ (d : Element). Leads (behind σ d) τ) (one-element _ f e z y) l)
+    leads-cases {τ} o q (on f z l) = inr (subst (λ (d : Element). Leads (spotBehind σ d) τ) (one-element _ f e z y) l)
     leads-cases {τ} o q (down w isArray levels p z r l) =
         let i : w ≡ v = gives-injective (sym z ∙ read-step limit (σ .document) (σ .offset) e y ∙ x) in
         inl (inr (subst (λ (k : Opening). Inside σ k τ) (sym r ∙ ap opening i ∙ q) l))
 
-    cases-lead : {τ : Spot} (o : Opening) → opening v ≡ o → ((τ ≡ σ) ⊎ Inside σ o τ) ⊎ Leads (behind σ e) τ → Leads σ τ
+    cases-lead : {τ : Spot} (o : Opening) → opening v ≡ o → ((τ ≡ σ) ⊎ Inside σ o τ) ⊎ Leads (spotBehind σ e) τ → Leads σ τ
     cases-lead o q (inl (inl i)) = subst (Leads σ) (sym i) here
     cases-lead closed q (inl (inr l)) = absurd l
     cases-lead (opens isArray levels p) q (inl (inr l)) = down v isArray levels p (read-step limit (σ .document) (σ .offset) e y ∙ x) q l
@@ -175,7 +175,7 @@ module _ (limit : Limit) where
         let z = step-yields limit (σ .document) _ e y in
         listed-same _ _ _ _ n (le-refl _) (le-refl _)
         (λ τ. (cases-lead e y (d .value) (d .reads) (r .what) (d .is), leads-cases e y (d .value) (d .reads) (r .what) (d .is)))
-        (listed-both _ _ _ k m (from-inner e y (r .what) d k (r .inner)) (ih (behind σ e) m (omega arith) w))
+        (listed-both _ _ _ k m (from-inner e y (r .what) d k (r .inner)) (ih (spotBehind σ e) m (omega arith) w))
 
   from-accepted : (f : ℕ) (strict : Bool) (σ : Spot) (n : ℕ) → bytesLeft σ < f → spotWalk limit strict σ ≡ gives n → ValuesFrom σ n
   from-accepted zero strict σ n i w = absurd (omega arith)

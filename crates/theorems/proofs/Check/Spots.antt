@@ -12,7 +12,7 @@ use Rattle.bson.specs.Step.{cursor, Element, Step, yield, end, stepUnder}
 use Rattle.bson.specs.Value.{Value, valueOf}
 use Rattle.bson.specs.Level.{Opening, closed, opens, opening}
 use Rattle.bson.specs.Check.{inside, visit, opened, checkUnder, walkUnder}
-use Rattle.bson.specs.Reach.{Spot, behind, within, YieldsAt, Comes, first, next, into}
+use Rattle.bson.specs.Reach.{Spot, spotBehind, within, YieldsAt, Comes, first, next, into}
 use Rattle.laws.proofs.AnswerLaws.{never, gives-injective, then-gives, then-from}
 use Rattle.laws.proofs.ReadLaws.{read-says}
 use Rattle.laws.specs.FramedAt.{FramedAt}
@@ -60,7 +60,7 @@ module _ (limit : Limit) where
   -- an accepted walk ends there, or goes on behind an accepted value
   pub data Walked (strict : Bool) (σ : Spot) : ℕ → Type 0 where
     ended : stepUnder limit (σ .document) (cursor (σ .offset) false) ≡ gives end → Walked strict σ 0
-    more : (e : Element) (n m : ℕ) → YieldsAt limit σ e → OpenedAt strict σ e n → spotWalk strict (behind σ e) ≡ gives m
+    more : (e : Element) (n m : ℕ) → YieldsAt limit σ e → OpenedAt strict σ e n → spotWalk strict (spotBehind σ e) ≡ gives m
         → Walked strict σ (n + m)
 
   module _ (strict : Bool) (σ : Spot) where
@@ -96,7 +96,7 @@ module _ (limit : Limit) where
     walked-by n (gives (yield e)) y w =
         let (k, q, x1) = then-gives (opened strict (walkUnder limit strict) (σ .document) (σ .level) (σ .position) e) _
         (sym (walk-onward limit strict _ _ _ _ e y) ∙ w) in
-        let (m, z, x2) = then-gives (spotWalk strict (behind σ e)) _ x1 in
+        let (m, z, x2) = then-gives (spotWalk strict (spotBehind σ e)) _ x1 in
         subst (Walked strict σ) (gives-injective x2) (more e k m y (opened-at-says e k q) z)
 
     pub walked-says : (n : ℕ) → spotWalk strict σ ≡ gives n → Walked strict σ n
@@ -122,7 +122,7 @@ module _ (limit : Limit) where
     pub values : ℕ
     pub opened : OpenedAt strict σ e values
     pub rest : ℕ
-    pub accepted : spotWalk strict (behind σ e) ≡ gives rest
+    pub accepted : spotWalk strict (spotBehind σ e) ≡ gives rest
     pub sum : values + rest ≡ n
 
   onward-says : (strict : Bool) (σ : Spot) (e : Element) (n : ℕ) → YieldsAt limit σ e → Walked strict σ n → Onward strict σ e n
@@ -133,7 +133,7 @@ module _ (limit : Limit) where
         values = k;
         opened = subst (λ (d : Element). OpenedAt strict σ d k) i o;
         rest = m;
-        accepted = subst (λ (d : Element). spotWalk strict (behind σ d) ≡ gives m) i w;
+        accepted = subst (λ (d : Element). spotWalk strict (spotBehind σ d) ≡ gives m) i w;
         sum = refl;
       }
 

@@ -12,7 +12,7 @@ use Rattle.bson.specs.Step.{admitted, cursor, Element, Step, yield, end, stepUn
 use Rattle.bson.specs.Value.{Value, valueOf}
 use Rattle.bson.specs.Level.{Opening, closed, opens, opening, outermost}
 use Rattle.bson.specs.Check.{keyPasses, checkUnder}
-use Rattle.bson.specs.Reach.{Spot, start, behind, within, YieldsAt, Comes, first, next, into, Reachable, Ends, here, later, Whole, GoodKeys}
+use Rattle.bson.specs.Reach.{Spot, start, spotBehind, within, YieldsAt, Comes, first, next, into, Reachable, Ends, here, later, Whole, GoodKeys}
 use Rattle.laws.proofs.AnswerLaws.{never}
 use Rattle.laws.proofs.ReadLaws.{read-step, read-says}
 use Rattle.laws.proofs.Common.{split}
@@ -49,7 +49,7 @@ module _ (limit : Limit) where
   walked-ends (suc f) strict σ n l (ended q) = here (ended-at limit (σ .document) (σ .offset) q)
   walked-ends (suc f) strict σ n l (more e k m y o w) =
       let z = step-yields limit (σ .document) _ e y in
-      later e y (walked-ends f strict (behind σ e) m (omega arith) (walked-says limit strict (behind σ e) m w))
+      later e y (walked-ends f strict (spotBehind σ e) m (omega arith) (walked-says limit strict (spotBehind σ e) m w))
 
   -- a slice that a check passes is whole, and its keys pass
   module _ (strict : Bool) (s : List ℕ) (n : ℕ) (passed : checkUnder limit strict s ≡ gives n) where
@@ -135,7 +135,7 @@ module _ (limit : Limit) where
       spot-counts (gives (yield e)) y =
           let z = step-yields limit (σ .document) _ e y in
           let (n, o) = opened-counts e y in
-          let (m, w) = ih (behind σ e) (next e c y) (omega arith) in
+          let (m, w) = ih (spotBehind σ e) (next e c y) (omega arith) in
           (n + m, λ strict k. walked-gives limit strict σ (n + m) (more e n m y (o strict k) (w strict k)))
 
     comes-counts : (f : ℕ) (σ : Spot) → Comes limit s σ → bytesLeft σ < f → CountsAt σ

@@ -13,7 +13,7 @@ use Rattle.bson.specs.ArrayKey.{goodArrayKey}
 use Rattle.bson.specs.Check.{keyPasses, check, checkUnder}
 use Rattle.bson.specs.Grammar.{Nest, levels, isArray, Elements, none, leaf, nest, size, Shallow}
 use Rattle.bson.specs.Meaning.{Holding, single, nested, holding, Yields, MeansFrom, ends, yields, opens}
-use Rattle.bson.specs.Reach.{Spot, start, behind, within, YieldsAt}
+use Rattle.bson.specs.Reach.{Spot, start, spotBehind, within, YieldsAt}
 use Rattle.laws.proofs.ReadLaws.{read-step}
 use Rattle.laws.proofs.StepLaws.{step-yields}
 use Rattle.laws.proofs.AdvanceLaws.{ended-at}
@@ -42,7 +42,7 @@ key-good strict l position key h s a = rw (s, a) at h
 
 -- an accepted value in front of a tree
 module _ (strict : Bool) (σ : Spot) (are : AreBytes (σ .document)) (e : Element) (y : YieldsAt unlimited σ e) (what : Opening)
-    (v : Visited strict (σ .document) (σ .level) (σ .position) e what) (m : ℕ) (rest : Tree strict (behind σ e) m) where
+    (v : Visited strict (σ .document) (σ .level) (σ .position) e what) (m : ℕ) (rest : Tree strict (spotBehind σ e) m) where
   abbrev keyed-by : List ℕ
   keyed-by = bytes (σ .document) (e .key)
 
@@ -96,7 +96,7 @@ tree-walked (suc f) strict σ n are l (more e k m y o w) =
     let z = step-yields unlimited (σ .document) _ e y in
     let v = o .visited in
     let opened = holding-opens (σ .document) (v .value) in
-    let rest = tree-walked f strict (behind σ e) m are (omega arith) (walked-says unlimited strict (behind σ e) m w) in
+    let rest = tree-walked f strict (spotBehind σ e) m are (omega arith) (walked-says unlimited strict (spotBehind σ e) m w) in
     let inner = subst (λ (x : Opening). Inner unlimited strict σ x k) (sym (v .is) ∙ opened) (o .inner) in
     in-front strict σ are e y (o .what) v m rest (holding (σ .document) (v .value)) refl
     (λ i p j q x. let r = opens-deeper unlimited σ e (v .value) (isArray i) (levels i) p y (v .reads) (opened ∙ ap openingOf q) in

@@ -97,4 +97,4 @@ meant-bytes s t a m =
     let (o, b) = meant-from s 4 t a m in
     let d = document-back s (length s) a (means-admitted m) (listBytes t) b in
     let l : length (treeBytes t) ≤ 2147483647 = rw d (omega (arith, admitted-says s (length s) (means-admitted m))) in
-    (record { ordered = o; fits = l }, d)
+    (record { ordered = o; short = l }, d)

@@ -13,7 +13,7 @@ use Rattle.bson.specs.ArrayKey.{goodArrayKey}
 use Rattle.bson.specs.Check.{keyPasses, check, checkUnder}
 use Rattle.bson.specs.Grammar.{levels, isArray, Elements, size, Shallow, ArrayKeys}
 use Rattle.bson.specs.Meaning.{Holding, single, nested, holding, Yields, MeansFrom, ends, yields, opens as holds, Means}
-use Rattle.bson.specs.Reach.{Spot, behind}
+use Rattle.bson.specs.Reach.{Spot, spotBehind}
 use Rattle.laws.proofs.Common.{split}
 use Rattle.laws.proofs.ReadLaws.{read-step}
 use Rattle.laws.proofs.CheckLaws.{walkFrom, walk-eq, walk-ends}
@@ -57,7 +57,7 @@ spot s l position offset = record { document = s; level = l; position = position
 yields-passes : (strict : Bool) (σ : Spot) {key : List ℕ} {tag : ℕ} {h : Holding} (e : Element) (n m : ℕ)
     → Yields (σ .document) (σ .offset) key tag h e → σ .level .depth ≤ 200
     → (strict ≡ true → σ .level .isArray ≡ true → goodArrayKey (σ .position) key ≡ true)
-    → Inner unlimited strict σ (openingOf h) n → spotWalk unlimited strict (behind σ e) ≡ gives m
+    → Inner unlimited strict σ (openingOf h) n → spotWalk unlimited strict (spotBehind σ e) ≡ gives m
     → spotWalk unlimited strict σ ≡ gives (n + m)
 yields-passes strict σ {h = h} e n m y low key i w =
     let reads = sym (read-step unlimited (σ .document) (σ .offset) e (y .steps)) ∙ y .reads in

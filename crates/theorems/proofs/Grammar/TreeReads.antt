@@ -66,6 +66,6 @@ means-from (nest n key inner rest) s offset g a small low here =
 pub tree-means : (t : Elements) → Good t → Means (treeBytes t) t
 tree-means t g =
     let l = length-document (listBytes t) in
-    let h = g .fits in
+    let h = g .short in
     let short : length (listBytes t) + 5 < 2147483648 = omega arith in
     means-from t (treeBytes t) 4 (g .ordered) (document-admitted (listBytes t) short) (omega arith) (omega arith) (inner-here (listBytes t))

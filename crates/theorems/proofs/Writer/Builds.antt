@@ -11,7 +11,7 @@ use Rattle.bson.specs.Answer.{gives}
 use Rattle.bson.specs.Cstring.{validCstr}
 use Rattle.bson.specs.Decimal.{decimal}
 use Rattle.bson.specs.Grammar.{Item, row, Embedded, document, embedded, scope, isArray, Elements, none, leaf, nest, elementBytes, listBytes}
-use Rattle.bson.specs.Grammar.{treeBytes, Shallow, InOrder, Numbered, behind, count}
+use Rattle.bson.specs.Grammar.{treeBytes, Shallow, InOrder, Numbered, followedBy, count}
 use Rattle.bson.specs.Writer.{fresh, used, room, Desk, desk, roomOf, Call, openTop, close, append, openNest, answer}
 use Rattle.theorems.specs.ReadBack.{Open, openOf, Building, building, built, with, keyFor, treeAfter, Session, sessionAfter, turn}
 use Rattle.theorems.specs.ReadBack.{run, sessionStart, Typed, Accepted, Unscoped, Writable, Builds, WriterBuilds}
@@ -19,7 +19,7 @@ use Rattle.laws.proofs.Common.{split}
 use Rattle.laws.proofs.GrammarLaws.{length-document}
 use Rattle.laws.proofs.WriterWords.{fresh-words}
 use Rattle.laws.proofs.WriterLaws.{room-small, bytes-behind}
-use Rattle.laws.proofs.TreeLaws.{behind-none, behind-behind, count-behind, none-length, leaf-length, nest-length}
+use Rattle.laws.proofs.TreeLaws.{followed-none, followed-assoc, count-followed, none-length, leaf-length, nest-length}
 use Rattle.theorems.proofs.Writer.DeskHolds.{shown, many, Holds}
 use Rattle.theorems.proofs.Writer.OpenBytes.{shown-with, shown-top, shown-nested}
 use Rattle.theorems.proofs.Writer.CallHolds.{top-holds, append-holds, open-holds, close-holds, close-top}
@@ -163,18 +163,18 @@ rest-given : (u t : Elements) (s : Session) (calls : List Call) (o : Open) (arou
     → Reaches s calls (with o u) around
     → count u ≡ 1 → InOrder t → Unscoped t → Numbered (isArray (embedded (o .nest))) (suc (count (o .inside))) t → Shallow (length around) t
     → length (shown (o ∷ around)) + length (listBytes u) + length (listBytes t) + suc (length around) ≤ roomOf (s .left)
-    → Reaches s (calls ++ callsOf t) (with o (behind u t)) around
+    → Reaches s (calls ++ callsOf t) (with o (followedBy u t)) around
 rest-given u t s calls o around grow r one good plain numbered shallow fits =
-    let c : suc (count (o .inside)) ≡ count (with o u .inside) = omega (arith, count-behind (o .inside) u) in
+    let c : suc (count (o .inside)) ≡ count (with o u .inside) = omega (arith, count-followed (o .inside) u) in
     let m = subst (λ (c : ℕ). Numbered (isArray (embedded (o .nest))) c t) c numbered in
     let l = ap length (shown-with o around u) ∙ length-append (shown (o ∷ around)) (listBytes u) in
     let (i, v) = reached r in
     let q = grow (r .end) (with o u) around (r .holds) good plain m shallow (omega arith) in
-    rw (← behind-behind (o .inside) u t) (reaches-both calls (callsOf t) s _ _ around around r q)
+    rw (← followed-assoc (o .inside) u t) (reaches-both calls (callsOf t) s _ _ around around r q)
 
 grows : (t : Elements) → Grows t
 grows none d o around h good plain numbered shallow fits =
-    rw (behind-none (o .inside)) (record { end = d; leads = record { accepted = tt; leaves = refl }; holds = h; kept = refl })
+    rw (followed-none (o .inside)) (record { end = d; leads = record { accepted = tt; leaves = refl }; holds = h; kept = refl })
 grows (leaf key v rest) d o around h good plain numbered shallow fits =
     let k = made-key o key (numbered .0) in
     let l = leaf-length key v rest in
@@ -236,7 +236,7 @@ tree-given t w buffer size =
 -- every writable tree is built, in a buffer of just its size
 pub writer-builds : WriterBuilds
 writer-builds t w buffer size =
-    let s : roomOf (desk fresh buffer) ≡ length (treeBytes t) = room-small (length buffer) (omega (arith, w .good .fits)) ∙ size in
+    let s : roomOf (desk fresh buffer) ≡ length (treeBytes t) = room-small (length buffer) (omega (arith, w .good .short)) ∙ size in
     let l = length-document (listBytes t) in
     let r = tree-given t w buffer s in
     let (i, u) = reached r in

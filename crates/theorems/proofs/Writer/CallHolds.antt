@@ -12,7 +12,7 @@ use Rattle.bson.specs.Answer.{gives}
 use Rattle.bson.specs.Decimal.{decimal}
 use Rattle.bson.specs.Output.{put}
 use Rattle.bson.specs.Grammar.{bytes32, Item, row, Embedded, document, array, embedded, nestTag, isArray, Elements, none, leaf, nest}
-use Rattle.bson.specs.Grammar.{elementBytes, documentOf, listBytes, treeBytes, behind, count}
+use Rattle.bson.specs.Grammar.{elementBytes, documentOf, listBytes, treeBytes, followedBy, count}
 use Rattle.bson.specs.Writer.{State, fresh, used, depth, startAt, start, markAt, mark, Kind, inArray, kindOf, markOf, Desk, desk, roomOf}
 use Rattle.bson.specs.Writer.{innermost, popped, keyIn, grown, pushed, close, openTop, append, openNest, answer}
 use Rattle.theorems.specs.ReadBack.{Open, openOf, with, keyFor}
@@ -24,7 +24,7 @@ use Rattle.laws.proofs.WriterWords.{pushed-other, pushed-used, pushed-depth, pu
 use Rattle.laws.proofs.WriterWords.{popped-depth, popped-other}
 use Rattle.laws.proofs.WriterLaws.{room-within, innermost-says, desk-sizes, taken, Appended, appended-says, opened-says, topped-says}
 use Rattle.laws.proofs.WriterLaws.{sealed, closed-says, bytes-behind}
-use Rattle.laws.proofs.TreeLaws.{count-behind, leaf-bytes, none-length}
+use Rattle.laws.proofs.TreeLaws.{count-followed, leaf-bytes, none-length}
 use Rattle.theorems.proofs.Writer.DeskHolds.{shown, startOf, kindFor, kindIs, Tied, HoldsAll, many, Holds}
 use Rattle.theorems.proofs.Writer.OpenBytes.{shown-with, start-with, shown-opened, front, shown-front, start-front, front-tree}
 use Rattle.theorems.proofs.Writer.OpenBytes.{shown-length, shown-top}
@@ -47,7 +47,7 @@ tied-below w v begun (o ∷ around) hs hm t =
 tied-with : (w : State) (o : Open) (around : List Open) (t : Elements) → count t ≡ 1 → Tied w 1 (o ∷ around) → Tied w 0 (with o t ∷ around)
 unfolding Tied
 tied-with w o around t one h =
-    let c : count (o .inside) + 1 ≡ count (behind (o .inside) t) + 0 = omega (arith, count-behind (o .inside) t) in
+    let c : count (o .inside) + 1 ≡ count (followedBy (o .inside) t) + 0 = omega (arith, count-followed (o .inside) t) in
     (h .0 ∙ sym (start-with o around t), (h .1 .0 ∙ ap (λ (x : ℕ). gives (kindFor (o .nest) x)) c, h .1 .1))
 
 kind-opened : (n : Embedded) → kindOf (markOf n) ≡ gives (kindFor n 0)
@@ -131,11 +131,11 @@ module _ (d : Desk) (o : Open) (around : List Open) (h : Holds d (o ∷ around))
       let new = elementBytes tag (keyIn (a .kind) key) value in
       let (r, s) = room-within (length (d .buffer)) in
       let u = grown-used w (a .kind) (length new) (omega (arith, h .words)) in
-      let f : used w + length new ≤ length (d .buffer) = omega (arith, a .fits) in
+      let f : used w + length new ≤ length (d .buffer) = omega (arith, a .in-room) in
       let b : HoldsAll (taken d (a .kind) new) (o ∷ around) 1 (shown (o ∷ around) ++ new) = record {
         words = grown-words w (h .words) (a .kind) (length new);
         deep = grown-depth w (a .kind) (length new) ∙ h .deep;
-        within = omega (arith, length-put (d .buffer) (used w) new f);
+        in-buffer = omega (arith, length-put (d .buffer) (used w) new f);
         bytes = ap (λ (x : ℕ). take x (put (d .buffer) (used w) new)) u
             ∙ take-put (d .buffer) (used w) new f
             ∙ ap (λ (x : List ℕ). x ++ new) (h .bytes);
@@ -150,7 +150,7 @@ element-counted e o around t one b =
     rw (shown-with o around t) (record {
       words = b .words;
       deep = b .deep;
-      within = b .within;
+      in-buffer = b .in-buffer;
       bytes = b .bytes;
       tied = tied-with (e .state) o around t one (b .tied);
     })
@@ -183,7 +183,7 @@ open-holds d e o around n key h q =
     subst (λ (x : Desk). Holds x (openOf n (keyFor o key) none ∷ o ∷ around)) (sym (p .is)) (record {
       words = pushed-words w (b .words) m;
       deep = pushed-depth w (b .words) m ∙ omega arith;
-      within = omega (arith, b .within);
+      in-buffer = omega (arith, b .in-buffer);
       bytes = ap (λ (x : ℕ). take x (p .between .buffer)) u ∙ b .bytes ∙ s;
       tied = tied-pushed w (o ∷ around) n (keyFor o key) (b .words) deep (omega (arith, p .element .low, h .deep)) begins (b .tied);
     })
@@ -199,12 +199,12 @@ top-holds buffer e q =
     let four : used w ≡ 4 = getD-set-same fresh 0 4 0 (omega (arith, fresh-words)) in
     let u : used (pushed w m) ≡ 0 + length (bytes32 5) = pushed-used w words m ∙ omega (arith, length-bytes32 5) in
     let (r, s) = room-within (length buffer) in
-    let f : 0 + length (bytes32 5) ≤ length buffer = omega (arith, t .fits, length-bytes32 5) in
+    let f : 0 + length (bytes32 5) ≤ length buffer = omega (arith, t .in-room, length-bytes32 5) in
     let nil = sym (append-nil (bytes32 5)) in
     subst (λ (x : Desk). Holds x (openOf document [] none ∷ [])) (sym (t .is)) (record {
       words = pushed-words w words m;
       deep = pushed-depth w words m ∙ ap (λ (x : ℕ). x + 1) deep;
-      within = omega (arith, length-put buffer 0 (bytes32 5) f);
+      in-buffer = omega (arith, length-put buffer 0 (bytes32 5) f);
       bytes = ap (λ (x : ℕ). take x (put buffer 0 (bytes32 5))) u ∙ take-put buffer 0 (bytes32 5) f ∙ nil;
       tied = tied-pushed w [] document [] words deep (omega arith) (omega arith) tt;
     })
@@ -222,7 +222,7 @@ module _ (d : Desk) (o : Open) (around : List Open) (h : Holds d (o ∷ around))
   true-length = omega (arith, many h, shown-length o around, start-is d o around h)
 
   zero-fits : used (d .state) + 1 ≤ length (d .buffer)
-  zero-fits = let s = desk-sizes d kind (innermost-says d kind i) in omega (arith, s .within, s .some)
+  zero-fits = let s = desk-sizes d kind (innermost-says d kind i) in omega (arith, s .in-buffer, s .some)
 
   ended : take (used (d .state) + 1) (put (d .buffer) (used (d .state)) (0 ∷ []))
       ≡ front o around ++ (bytes32 5 ++ (listBytes (o .inside) ++ (0 ∷ [])))
@@ -255,12 +255,12 @@ close-begun d e o around h q =
     let c = closed-says d e q in
     let w = d .state in
     let long = bytes-behind close d e (h .words) q .long in
-    let within : used (popped w) ≤ length (sealed d) =
+    let in-buffer : used (popped w) ≤ length (sealed d) =
     omega (arith, popped-used w (h .words), zero-fits d o around h (c .kind) (c .inner), ap (λ (x : Desk). length (x .buffer)) (c .is)) in
     subst (λ (x : Desk). HoldsAll x around 1 (front o around ++ treeBytes (o .inside))) (sym (c .is)) (record {
       words = popped-words w (h .words);
       deep = popped-depth w (h .words) ∙ last-is d o around h;
-      within = within;
+      in-buffer = in-buffer;
       bytes = sealed-bytes d o around h (c .kind) (c .inner);
       tied = tied-popped w around (h .words) (h .tied .1 .1);
     })

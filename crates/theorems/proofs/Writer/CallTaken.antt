@@ -90,7 +90,7 @@ module _ (d : Desk) (o : Open) (around : List Open) (h : Holds d (o ∷ around))
           low = omega arith;
           keyed = key-passes (o .nest) (count (o .inside) + 0) key v;
           valued = g;
-          fits = rw (key-in (o .nest) (count (o .inside)) key ∙ k) (omega arith);
+          in-room = rw (key-in (o .nest) (count (o .inside)) key ∙ k) (omega arith);
           is = refl;
         },
       )
@@ -124,4 +124,4 @@ pub top-taken : (buffer : List ℕ) → 5 ≤ roomOf (desk fresh buffer) → (e 
 unfolding answer
 top-taken buffer fits =
     let d = desk fresh buffer in
-    (_, topped-gives d _ (record { can = fresh-possible (roomOf d); nothing = fresh-closed; fits = fits; is = refl }))
+    (_, topped-gives d _ (record { can = fresh-possible (roomOf d); nothing = fresh-closed; in-room = fits; is = refl }))

@@ -43,12 +43,12 @@ Tied w begun (o ∷ around) =
 pub record HoldsAll (d : Desk) (os : List Open) (begun : ℕ) (all : List ℕ) : Type 0 where
   pub words : length (d .state) ≡ 406
   pub deep : depth (d .state) ≡ length os
-  pub within : used (d .state) ≤ length (d .buffer)
+  pub in-buffer : used (d .state) ≤ length (d .buffer)
   pub bytes : take (used (d .state)) (d .buffer) ≡ all
   pub tied : Tied (d .state) begun os
 
 pub many : {d : Desk} {os : List Open} {begun : ℕ} {all : List ℕ} → HoldsAll d os begun all → used (d .state) ≡ length all
-many {d} h = sym (length-take-le (used (d .state)) (d .buffer) (h .within)) ∙ ap length (h .bytes)
+many {d} h = sym (length-take-le (used (d .state)) (d .buffer) (h .in-buffer)) ∙ ap length (h .bytes)
 
 abbrev pub Holds : Desk → List Open → Type 0
 Holds d os = HoldsAll d os 0 (shown os)

@@ -8,15 +8,15 @@ use lib.ListN.{length, length-append}
 use Rattle.bson.specs.Grammar.{bytes32, Embedded, embedded, nestTag, Elements, none, nest, elementBytes, listBytes, treeBytes}
 use Rattle.theorems.specs.ReadBack.{Open, openOf, with}
 use Rattle.laws.proofs.GrammarLaws.{length-bytes32, length-element}
-use Rattle.laws.proofs.TreeLaws.{list-behind, nest-bytes}
+use Rattle.laws.proofs.TreeLaws.{list-followed, nest-bytes}
 use Rattle.theorems.proofs.Writer.DeskHolds.{shown, startOf}
 
 -- ---- the bytes of open documents
 
 pub shown-with : (o : Open) (around : List Open) (t : Elements) → shown (with o t ∷ around) ≡ shown (o ∷ around) ++ listBytes t
 unfolding shown
-shown-with o [] t = rw (list-behind (o .inside) t) (simp (append-assoc))
-shown-with o (p ∷ around) t = rw (list-behind (o .inside) t) (simp (append-assoc))
+shown-with o [] t = rw (list-followed (o .inside) t) (simp (append-assoc))
+shown-with o (p ∷ around) t = rw (list-followed (o .inside) t) (simp (append-assoc))
 
 pub start-with : (o : Open) (around : List Open) (t : Elements) → startOf (with o t ∷ around) ≡ startOf (o ∷ around)
 unfolding startOf

@@ -17,7 +17,7 @@ use Rattle.theorems.specs.ReadBack.{Open, openOf, Building, unopened, bu
 use Rattle.theorems.specs.ReadBack.{turn, run, sessionStart, Typed, ReadsBack, Stands, WriterReadsBack}
 use Rattle.laws.proofs.DecimalLaws.{decimal-valid}
 use Rattle.laws.proofs.GrammarLaws.{length-document}
-use Rattle.laws.proofs.TreeLaws.{ordered-behind, shallow-behind, keys-behind}
+use Rattle.laws.proofs.TreeLaws.{ordered-followed, shallow-followed, keys-followed}
 use Rattle.laws.proofs.WriterWords.{fresh-closed}
 use Rattle.laws.proofs.WriterLaws.{possible-says, top-used, innermost-says, Appended, appended-says, opened-says, topped-says, closed-says}
 use Rattle.theorems.proofs.Writer.DeskHolds.{kindFor, Holds}
@@ -49,9 +49,9 @@ sound-with : (o : Open) (level : ℕ) (t : Elements) → Sound o level → InOrd
     → Numbered (isArray (embedded (o .nest))) (count (o .inside)) t → Shallow level t
     → Sound (with o t) level
 sound-with o level t s g n h = record {
-  ordered = ordered-behind (o .inside) t (s .ordered) g;
-  numbered = keys-behind (λ i key. key ≡ decimal i) (isArray (embedded (o .nest))) 0 (o .inside) t (s .numbered) (rw zero-add n);
-  shallow = shallow-behind level (o .inside) t (s .shallow) h;
+  ordered = ordered-followed (o .inside) t (s .ordered) g;
+  numbered = keys-followed (λ i key. key ≡ decimal i) (isArray (embedded (o .nest))) 0 (o .inside) t (s .numbered) (rw zero-add n);
+  shallow = shallow-followed level (o .inside) t (s .shallow) h;
 }
 
 sounds-with : (o : Open) (around : List Open) (t : Elements) → Sounds (o ∷ around) → InOrder t
@@ -157,7 +157,7 @@ module _ (buffer : List ℕ) where
   close-reads d e o h s q =
       let c = close-top d e o h q in
       let t = o .inside in
-      let means = tree-means t (record { ordered = s .1 .ordered; fits = c .small }) in
+      let means = tree-means t (record { ordered = s .1 .ordered; short = c .small }) in
       record {
         closed = c .closed;
         bytes = c .bytes;

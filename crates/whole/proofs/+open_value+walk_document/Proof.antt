@@ -211,7 +211,7 @@ walk-document-loop-less t c =
     let b = c .before .before .before .before .before in
     let x = answered step.said (b .before .before .next-under .ensures .0) (b .element .given .1) in
     let y = step-yields _ _ _ _ x in
-    let n = next-lands _ _ _ x (sym (b .before .before .next-under .ensures .1) ∙ ap step.behind (b .element .given .1)) in
+    let n = next-lands _ _ _ x (sym (b .before .before .next-under .ensures .1) ∙ ap step.cursorBehind (b .element .given .1)) in
     let l = ap length (i .0) in
     omega arith
 
@@ -223,7 +223,7 @@ walk-document-loop-again t c =
     let o = answered said (c .before .before .before .open-value .ensures (i .1)) (c .before .values .given .1) in
     let y = step-yields _ _ _ _ x in
     let k = opened-count _ _ _ _ (i .1) _ _ y _ o in
-    let n = next-lands _ _ _ x (sym (b .before .before .next-under .ensures .1) ∙ ap step.behind (b .element .given .1)) in
+    let n = next-lands _ _ _ x (sym (b .before .before .next-under .ensures .1) ∙ ap step.cursorBehind (b .element .given .1)) in
     let l = ap length (i .0) in
     (i .0, suc (i .1), omega arith, omega arith, rw n (left-onward _ _ _ _ _ _ _ (i .4) _ (rw (i .0) at x) _ (sym (rw (i .0) at o))))
 
