@@ -1,7 +1,6 @@
 -- The writer's refusals and bytes, each by a state, a buffer and a call that show it (document 01, "Writer and joining", and the points of
 -- docs/DECISIONS.md).
 use Prim.Native.Nat.{ℕ, zero, suc, _+_, _*_}
-use mathlib.Core.Path.{_≡_}
 use mathlib.Core.List.{List, [], _∷_}
 use mathlib.Core.Bool.{true}
 use lib.IntN.{negsuc}
@@ -41,18 +40,12 @@ zeroKey = 0x61 ∷ 0 ∷ []
 
 -- ---- refusals
 
--- a call, its state and buffer, and the number it returns
-pub record Point : Type 0 where
-  pub call : Call
-  pub state : State
-  pub size : ℕ
-  pub number : ℕ
-
-abbrev pub point : Call → State → ℕ → ℕ → Point
-point call state size number = record { call = call; state = state; size = size; number = number }
+-- the number that a call returns, by its state and its room, and what was settled
+abbrev pub point : Call → State → ℕ → ℕ → ℕ × ℕ
+point call state size number = (performed call state (blank size) .number, number)
 
 -- 18, for each state that cannot be, and each call out of turn
-unfoldable pub outOfTurn : List Point
+unfoldable pub outOfTurn : List (ℕ × ℕ)
 outOfTurn =
     point (append [] null) fresh 99 18
     ∷ point close fresh 99 18
@@ -79,7 +72,7 @@ outOfTurn =
     ∷ []
 
 -- 13 for a value at depth 201; it comes before 15
-unfoldable pub tooDeep : List Point
+unfoldable pub tooDeep : List (ℕ × ℕ)
 tooDeep =
     point (append [] null) (nested 200) 2000 0
     ∷ point (append [] null) (nested 201) 2000 13
@@ -90,7 +83,7 @@ tooDeep =
     ∷ []
 
 -- 15, before 14; in an array the key is not looked at
-unfoldable pub notInOrder : List Point
+unfoldable pub notInOrder : List (ℕ × ℕ)
 notInOrder =
     point (append zeroKey null) top 5 15
     ∷ point (append (0xFF ∷ []) null) top 99 15
@@ -103,7 +96,7 @@ notInOrder =
     ∷ []
 
 -- 14: "null under an empty key needs room 7; room 6 is 14"; an opened document needs its zero too, and closing never meets 14
-unfoldable pub noRoom : List Point
+unfoldable pub noRoom : List (ℕ × ℕ)
 noRoom =
     point (append [] null) top 7 0
     ∷ point (append [] null) top 6 14
@@ -115,17 +108,6 @@ noRoom =
     ∷ point (append [] null) (inTop 30 4 10) 36 0
     ∷ point (append [] null) (inTop 30 4 10) 35 14
     ∷ []
-
-abbrev pub numbersOf : List Point → List ℕ
-numbersOf [] = []
-numbersOf (p ∷ ps) = performed (p .call) (p .state) (blank (p .size)) .number ∷ numbersOf ps
-
-abbrev pub settledOf : List Point → List ℕ
-settledOf [] = []
-settledOf (p ∷ ps) = p .number ∷ settledOf ps
-
-abbrev pub Hold : List Point → Type 0
-Hold points = numbersOf points ≡ settledOf points
 
 -- ---- the bytes that are written
 
@@ -160,14 +142,3 @@ writtenPoints =
       0x13 ∷ 0 ∷ 0 ∷ 0 ∷ 0x04 ∷ 0 ∷ 0x0C ∷ 0 ∷ 0 ∷ 0 ∷ 0x0A ∷ 0x30 ∷ 0 ∷ 0x08 ∷ 0x31 ∷ 0 ∷ 0x01 ∷ 0 ∷ 0 ∷ [],
     )
     ∷ []
-
-abbrev pub leftOf : List (List ℕ × List ℕ) → List (List ℕ)
-leftOf [] = []
-leftOf (p ∷ ps) = p .0 ∷ leftOf ps
-
-abbrev pub rightOf : List (List ℕ × List ℕ) → List (List ℕ)
-rightOf [] = []
-rightOf (p ∷ ps) = p .1 ∷ rightOf ps
-
-abbrev pub Same : List (List ℕ × List ℕ) → Type 0
-Same points = leftOf points ≡ rightOf points
