@@ -32,7 +32,7 @@ static const uint8_t every_type[221] = {
     /* 220 */ 0,
 };
 
-/* P12 of document 01: key a twice, first false, then true. */
+/* P12 of RULES.md: key a twice, first false, then true. */
 static const uint8_t p12[13] = {13, 0, 0, 0, 0x08, 'a', 0, 0, 0x08, 'a', 0, 1, 0};
 
 /* An int32 87 under `battery`, then a tag that is none, at 17. */

@@ -2,7 +2,7 @@
 #include "samples.h"
 #include "test.h"
 
-/* Document 01, "Bytes to try", in its order. */
+/* RULES.md, "Bytes to try", in its order. */
 static void bytes_to_try(void) {
     EXPECT_VERDICT(fringewell_check(BYTES(0x05, 0, 0, 0, 0)), 0, 0, 0);
     EXPECT_VERDICT(fringewell_check(BYTES(0x05, 0, 0, 0)), FRINGEWELL_TOO_SHORT, 0, 0);

@@ -1,4 +1,4 @@
-/* Lookup and typed lookup (document 01, "Values"). */
+/* Lookup and typed lookup (RULES.md, "Values"). */
 #include "samples.h"
 #include "test.h"
 

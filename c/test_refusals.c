@@ -113,7 +113,7 @@ static void turns(void) {
     EXPECT_WRITTEN(fringewell_writer_close(DESK(5)), 0, 5);
     EXPECT_REFUSED(fringewell_writer_close(DESK(SIZE)), FRINGEWELL_OUT_OF_TURN);
     EXPECT_REFUSED(fringewell_writer_open(DESK(SIZE)), FRINGEWELL_OUT_OF_TURN); /* bytes are used before the top */
-    /* document 01: null under an empty key needs room 7 */
+    /* RULES.md, "Bytes to try": null under an empty key needs room 7 */
     open_top(7);
     EXPECT_REFUSED(call(6, 6, NOTHING), FRINGEWELL_NO_ROOM);
     EXPECT_WRITTEN(call(6, 7, NOTHING), 0, 6);

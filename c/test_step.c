@@ -1,4 +1,4 @@
-/* Steps, and reading what they yield (document 01, "Admission and one step" and "Values"). */
+/* Steps, and reading what they yield (RULES.md, "Admission and one step" and "Values"). */
 #include "samples.h"
 #include "test.h"
 

@@ -1,4 +1,4 @@
-/* The writer: what is built, byte for byte, and read back (document 01, "Writer and joining"). */
+/* The writer: what is built, byte for byte, and read back (RULES.md, "Writer and joining"). */
 #include "samples.h"
 #include "test.h"
 

@@ -1,8 +1,9 @@
 /* Fringewell: a BSON reader and writer, proved. This header is all that a C or C++ program needs.
  *
- * Proved (docs/CLAIMS.md): every call ends and is memory-safe on every input; its answer, and what it leaves in a lent buffer and in a
- *   writer, are fixed by a definition written from BSON 1.1; a call that is refused changes no byte of either.
- * Trusted: the compiler's back end, the C library, the machine, and that a caller keeps to what is said here.
+ * Papers: RULES.md, cited here by section, CLAIMS.md and TRUST.md are in docs/, and installed in share/doc/fringewell.
+ * Proved (CLAIMS.md): every call ends and is memory-safe on every input; its answer, and what it leaves in a lent buffer and in a
+ *   writer, are fixed by a definition written from BSON 1.1 and RULES.md. It follows that a refused call changes no byte of either.
+ * Trusted: what TRUST.md lists, compiler, C library and machine among it, and that a caller keeps to what is said here.
  *
  * Ownership: nothing is allocated, and no pointer is kept after a call. Answers are structs of numbers, by value.
  * Slices: a pointer and a length of at most PTRDIFF_MAX. With length 0 the pointer may be any, NULL too. A pointer to a writer, and to
@@ -35,10 +36,10 @@ extern "C" {
 
 #define FRINGEWELL_STACK_BYTES 98304
 
-/* The numbers. `number` in an answer is 0, or the number of the refusal; 1 to 13 mean damage, and under a limit 22. What a refusal does
- * not give is 0. `place` is the offset, in the slice given, of the tag byte of the element that the refusal is about; for 4 it is the
- * offset where the step would begin, for 16 that of the terminator, for 1 to 3 of the given slice 0. The terminator is a document's last
- * byte. */
+/* The numbers (RULES.md, "Numbers returned", with what to do about each). `number` in an answer is 0, or the number of the refusal; 1 to
+ * 13 mean damage, and under a limit 22. What a refusal does not give is 0. `place` is the offset, in the slice given, of the tag byte of
+ * the element that the refusal is about; for 4 it is the offset where the step would begin, for 16 that of the terminator, for 1 to 3 of
+ * the given slice 0. The terminator is a document's last byte. */
 enum {
     FRINGEWELL_OK = 0,              /* no refusal */
     FRINGEWELL_TOO_SHORT = 1,       /* document under 5 bytes */
@@ -64,7 +65,7 @@ enum {
     FRINGEWELL_TOO_LONG = 22        /* key, pattern or options longer than the limit, or without a zero byte under one */
 };
 
-/* The tags: all that there are. */
+/* The tags: all that there are (RULES.md, "Admission and one step"). */
 enum {
     FRINGEWELL_TAG_DOUBLE = 0x01,
     FRINGEWELL_TAG_STRING = 0x02,
@@ -137,12 +138,13 @@ typedef struct {
     uint32_t words[406];
 } fringewell_writer;
 
-/* ---- Reading. Every call but fringewell_value_of admits the document first: 1, 2, 3, in this order. ---- */
+/* ---- Reading (RULES.md, "Admission and one step", "Values", "The whole check"). Every call but fringewell_value_of admits the document
+ * first: 1, 2, 3, in this order. ---- */
 
-/* Limits. A call whose name ends in `_under` answers as the call in front of it, but under a limit: with limit m a key, a pattern or
- * options may have at most m bytes, at every level, else 22, before 6. What is answered of such a text depends on the first m + 1 bytes
- * from where it begins alone, and 22 stands in the place of 5. These calls always have a limit set, SIZE_MAX too; the others have none.
- * Not limited are the key that is looked up, and texts with their length in front. */
+/* Limits (RULES.md, request 2). A call whose name ends in `_under` answers as the call in front of it, but under a limit: with limit m a
+ * key, a pattern or options may have at most m bytes, at every level, else 22, before 6. What is answered of such a text depends on the
+ * first m + 1 bytes from where it begins alone, and 22 stands in the place of 5. These calls always have a limit set, SIZE_MAX too; the
+ * others have none. Not limited are the key that is looked up, and texts with their length in front. */
 
 /* The whole check: every element of every level, its value read, none deeper than 200 (top values have depth 0; inside documents and
  * arrays it is one more, inside a scope two). Refused by 1 to 13, the first met in the document's order: at an element that steps from
@@ -203,7 +205,7 @@ fringewell_value fringewell_read_under(const uint8_t *document, size_t length, s
  * a part may have another size than its type's, and an empty one may begin behind the document. */
 fringewell_value fringewell_value_of(const uint8_t *document, size_t length, size_t place, uint8_t tag, size_t offset, size_t size);
 
-/* ---- Joining ---- */
+/* ---- Joining (RULES.md, "Writer and joining") ---- */
 
 /* Writes one document of both bodies, the first's elements before the second's, to the front of `out`; its `length` is the sum of both
  * less 5, and the bytes behind it stay. Refused by 1 to 13 where the check refuses the first, then the second, with `which`; then by 14
@@ -211,7 +213,7 @@ fringewell_value fringewell_value_of(const uint8_t *document, size_t length, siz
 fringewell_joined fringewell_join(const uint8_t *first, size_t first_length, const uint8_t *second, size_t second_length, uint8_t *out,
                                   size_t out_length);
 
-/* ---- Writing ----
+/* ---- Writing (RULES.md, "Writer and joining") ----
  *
  * A fresh writer opens its top document, appends, opens and closes documents and arrays, and closes the top: then the first `used` bytes
  * of `out` are a document that passes the check and reads back as what was given. Each call takes the same `out` and `out_length`, and

@@ -2,7 +2,7 @@
 """Makes what the vectors program replays.
 
 crates/vectors/stdin holds questions, sessions of the writer among them, then the list: a document a line with every answer about it, those under a
-limit last (diff/README.md says the form). The answers come from document 01's rules (tools/rules) and, for the list, are held against the Rust's.
+limit last (diff/README.md says the form). The answers come from the rules (tools/rules) and, for the list, are held against the Rust's.
 
 usage: tools/make/cases.py --check           the files are what the rules say; needs no Rust
        tools/make/cases.py ORACLE            asks the oracle program too, and writes the files where it agrees with the rules
@@ -240,7 +240,7 @@ def is_damaged_by(d, limit):
 
 
 def try_lookups():
-    """Document 01's bytes are in the list with their lookups; a dozen lookups lie behind damage, a dozen before it, with no limit and where one alone
+    """The bytes to try are in the list with their lookups; a dozen lookups lie behind damage, a dozen before it, with no limit and where one alone
     makes the damage."""
     asks_of = dict(documents())
     for d, _ in bytes_to_try():
@@ -286,7 +286,7 @@ def read_back(d, e):
 
 
 def try_written():
-    """Every type but code with scope has a call; each is read back as it was written; what 202 open leave is document 01's."""
+    """Every type but code with scope has a call; each is read back as it was written; what 202 open leave is what RULES.md says."""
     tags = {tag for tag, _ in (writing.VALUES | writing.NESTS).values()}
     assert tags == {*rules.FIXED, *rules.FRAMED} - {SCOPE}, tags
     d = closed(*writing.every_type())

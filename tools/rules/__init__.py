@@ -1,1 +1,1 @@
-"""Document 01's rules, and the documents and questions that are made to ask them."""
+"""The rules of docs/RULES.md, and the documents and questions that are made to ask them."""

@@ -1,7 +1,7 @@
 """The documents of the list: bytes for every class, boundary and kind of damage, with the keys that are looked up in them.
 
 Each group is a generator of (document, asks); an ask is ("get", key) or ("typed", key, tag). The groups under a limit have it in front. Nothing here
-says an answer, but for document 01's "Bytes to try", whose results stand beside them as the paper has them, and for the settled points of a limit.
+says an answer, but for RULES.md, "Bytes to try", whose results stand beside them as that page has them, and for the settled points of a limit.
 """
 import re
 
@@ -89,7 +89,7 @@ VALUE_AT = 4 + 3 + 3  # where the value of a framed sample begins
 SAMPLED = [(tag, SAMPLES[tag]) for tag in sorted(SAMPLES)] + [(0x05, OLD_BINARY)]
 
 
-# ---- document 01's "Bytes to try", with its results of the whole check
+# ---- RULES.md, "Bytes to try", with its results of the whole check
 
 TRY = """05 00 00 00 00 = 0
 05 00 00 00 = 1 at 0
@@ -124,7 +124,7 @@ def scope_below(depth, scope):
 
 
 def bytes_to_try():
-    """Document 01's table: each document, and the result of the whole check."""
+    """The table of "Bytes to try": each document, and the result of the whole check."""
     for row in TRY.split("\n"):
         hexes, result = row.split(" = ")
         yield bytes.fromhex(hexes), result
@@ -554,7 +554,7 @@ def settled_limits():
 
 
 def any_limits():
-    """Document 01's bytes, some of which are not admitted, under limits that say nothing of most."""
+    """The bytes to try, some of which are not admitted, under limits that say nothing of most."""
     for d, _ in bytes_to_try():
         for limit in (0, 1, 2**64 - 1):
             yield limit, d, gets("", "a") + typed("a", 0x08)

@@ -1,4 +1,4 @@
-"""Joining: document 01's rule for it, written from the text of "Writer and joining"."""
+"""Joining: its rule, written from the text of RULES.md, "Writer and joining"."""
 from .documents import resized
 from .rules import Refused, check
 

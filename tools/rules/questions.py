@@ -2,7 +2,7 @@
 tag. At any place of a document: a step from any cursor, a value, a part by its name. The whole check of a few more documents. Sessions of
 the writer.
 
-Each is a line for the vectors program and the answer that document 01's rules give, as the program prints it.
+Each is a line for the vectors program and the answer that the rules give, as the program prints it.
 """
 from itertools import product
 

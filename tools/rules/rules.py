@@ -1,4 +1,4 @@
-"""Document 01's rules for reading, with document 02's limit on zero-ended texts (request 2), written from their text: what every call must answer,
+"""The rules for reading, with the limit on zero-ended texts (request 2), written from the text of docs/RULES.md: what every call must answer,
 with number and place.
 
 A function gives its answer or raises Refused. Where no limit is named there is none. UTF-8 is judged by Python's own decoder, which follows RFC 3629.

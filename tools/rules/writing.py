@@ -1,4 +1,4 @@
-"""The writer: document 01's rules for it, written from the text of "Writer and joining", and sessions of calls.
+"""The writer: its rules, written from the text of RULES.md, "Writer and joining", and sessions of calls.
 
 A session is a line `write ROOM; CALL; CALL; ..` for the vectors program: a buffer of ROOM bytes that are all EE, a fresh state, and calls in order.
 A call is a word and its fields; bytes are hexadecimal, no bytes a `-`, a subtype two hexadecimal digits, all other numbers decimal.

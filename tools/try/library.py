@@ -1,9 +1,9 @@
 #!/usr/bin/env python3
-"""Holds the C library against document 01's rules: every boundary function is called as C calls it, and every field that it returns and every
+"""Holds the C library against the rules of docs/RULES.md: every boundary function is called as C calls it, and every field that it returns and every
 byte that it was lent for writing must be what these say (tools/rules).
 
 Asked whole: the documents of the list, and those that are listed under a limit under each of theirs; the sessions of the writer, call by call; all
-pairs of document 01's own bytes to join; slices of each size up to 71 bytes, the check of them under limits too; texts of two characters; texts of
+pairs of RULES.md's own bytes to join; slices of each size up to 71 bytes, the check of them under limits too; texts of two characters; texts of
 zeros but for one byte; values of each tag in each part of some slices; calls of the writer at the greatest room. Sampled: every third document under
 one of its limits, in turn; by seeds 3,000 damaged copies of the documents, and of the pairs of documents 1,000 of each kind, good or damaged before
 good or damaged.
@@ -447,7 +447,7 @@ def joined(first, second):
 
 
 def telling_pairs():
-    """All pairs of document 01's bytes; a document that only the strict check refuses, and a beacon frame beside them."""
+    """All pairs of the bytes to try; a document that only the strict check refuses, and a beacon frame beside them."""
     return product([*(d for d, _ in bytes_to_try()), keyed("a"), short_beacon()], repeat=2)
 
 
@@ -665,7 +665,7 @@ def compare(library):
             if differ <= 5:
                 print(report(name, args, answer, expected))
     sums.follow()
-    print(f"{asked - differ} answers of the library as document 01's rules say, {differ} differ")
+    print(f"{asked - differ} answers of the library as the rules say, {differ} differ")
     apart = len(sums.wrong)
     print(*sums.wrong[:5], f"{sums.followed - apart} times a document's elements lie one behind the other, {apart} times not", sep="\n")
     return differ == 0 == apart, firsts
@@ -769,7 +769,7 @@ def second_first(first, second, buffer, right=joining.join):
     return right(second, first, buffer)
 
 
-# document 01's "Errors a quick port would make", and some more
+# RULES.md, "Errors a quick port would make", and some more
 WRONG_READING = {
     "a zero met as a tag ends": patch.object(rules, "step", zero_tag_ends),
     "a value that swallows the terminator ends": patch.object(rules, "step", swallowing_ends),

@@ -1,4 +1,4 @@
-//! The Rust: its iteration, values and lookup; the whole check is the walk of document 01 over them.
+//! The Rust: its iteration, values and lookup; the whole check is the walk of docs/RULES.md over them.
 
 use std::hint::black_box;
 

@@ -1,4 +1,4 @@
-// Texts, binary data and ids, appended to lent state (document 01, "Writer and joining").
+// Texts, binary data and ids, appended to lent state (RULES.md, "Writer and joining").
 ghost use mathlib.Core.Path.{_≡_};
 ghost use Rattle.bson.specs.Grammar as grammar;
 ghost use Rattle.bson.specs.Utf8.{utf8};

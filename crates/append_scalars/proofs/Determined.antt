@@ -1,4 +1,4 @@
--- Determined: the promise of each call allows one answer, one buffer and one state (document 01, "What every answer is bound to").
+-- Determined: the promise of each call allows one answer, one buffer and one state (RULES.md, "What every answer is bound to").
 use contract.Lifetimes.{Lfts}
 use borrow.Fn.Kinds.{Dens}
 use denote.Ref.{now}

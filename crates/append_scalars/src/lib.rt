@@ -1,4 +1,4 @@
-// Numbers, booleans and the types without a value, appended to lent state (document 01, "Writer and joining").
+// Numbers, booleans and the types without a value, appended to lent state (RULES.md, "Writer and joining").
 ghost use mathlib.Core.Path.{_≡_};
 ghost use mathlib.Core.Bool.{true};
 ghost use mathlib.Core.List.{[], _++_};

@@ -1,4 +1,4 @@
--- The refusals of an element in their order, 13, 15, 14, as the code meets them (document 01, "Writer and joining").
+-- The refusals of an element in their order, 13, 15, 14, as the code meets them (RULES.md, "Writer and joining").
 use Prim.Native.Nat.{ℕ, _+_, _-_, _≤_, _<_}
 use mathlib.Core.Path.{_≡_, refl, sym, ap, _∙_}
 use mathlib.Core.List.{List}

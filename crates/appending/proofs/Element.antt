@@ -1,5 +1,5 @@
 -- The head of an element that the tests let pass, and what it leaves in the buffer, as the code meets them
--- (document 01, "Writer and joining").
+-- (RULES.md, "Writer and joining").
 use Prim.Native.Nat.{ℕ, _+_, _-_, _≤_, _<_, _^_}
 use mathlib.Core.Path.{_≡_, refl, sym, ap, _∙_}
 use mathlib.Core.List.{List, [], _∷_}

@@ -1,4 +1,4 @@
--- An element whose head is put and whose value is then put behind it, as the code meets them (document 01, "Writer and joining").
+-- An element whose head is put and whose value is then put behind it, as the code meets them (RULES.md, "Writer and joining").
 use Prim.Native.Nat.{ℕ, _+_, _-_, _≤_}
 use mathlib.Core.Path.{_≡_, refl, sym, ap, _∙_}
 use mathlib.Core.List.{List, [], _∷_, _++_, append-assoc}

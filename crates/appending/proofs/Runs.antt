@@ -1,4 +1,4 @@
--- An element whose value is put in four runs, whose sizes together may pass every room (document 01, "Writer and joining").
+-- An element whose value is put in four runs, whose sizes together may pass every room (RULES.md, "Writer and joining").
 use Prim.Native.Nat.{ℕ, _+_, _-_, _≤_, _<_}
 use mathlib.Core.Path.{_≡_, refl, sym, ap, _∙_}
 use mathlib.Core.List.{List, [], _∷_, _++_, append-nil}

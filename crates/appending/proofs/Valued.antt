@@ -1,4 +1,4 @@
--- An element appended whose value, or whose test, is told otherwise (document 01, "Writer and joining").
+-- An element appended whose value, or whose test, is told otherwise (RULES.md, "Writer and joining").
 use Prim.Native.Nat.{ℕ}
 use mathlib.Core.Path.{_≡_, ap, sym, _∙_}
 use mathlib.Core.List.{List}

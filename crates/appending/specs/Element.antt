@@ -1,4 +1,4 @@
--- An element appended, and its head put before its value, as the inner functions answer (document 01, "Writer and joining").
+-- An element appended, and its head put before its value, as the inner functions answer (RULES.md, "Writer and joining").
 use Prim.Native.Nat.{ℕ, _+_}
 use mathlib.Core.List.{List, []}
 use mathlib.Core.Bool.{Bool, cond}

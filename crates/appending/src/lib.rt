@@ -1,4 +1,4 @@
-// An element behind the used bytes: its head, then its value; tested in the order 18, 13, 15, 14 (document 01, "Writer and joining").
+// An element behind the used bytes: its head, then its value; tested in the order 18, 13, 15, 14 (RULES.md, "Writer and joining").
 ghost use mathlib.Core.Path.{_≡_};
 ghost use mathlib.Core.Bool.{true};
 ghost use mathlib.Core.List.{[], _∷_, _++_};

@@ -1,4 +1,4 @@
-// The keys of arrays, as the strict check asks for them (document 01, "The whole check").
+// The keys of arrays, as the strict check asks for them (RULES.md, "The whole check").
 ghost use Prim.Native.Nat.{ℕ};
 ghost use mathlib.Core.Path.{_≡_};
 ghost use mathlib.Core.Bool.{_&&_};

@@ -1,4 +1,4 @@
-// Checks one document from standard input many times, by document 01's "The whole check"; bench/linear times it from outside.
+// Checks one document from standard input many times, by RULES.md, "The whole check"; bench/linear times it from outside.
 use libc::STDIN_FILENO;
 use libc::STDOUT_FILENO;
 use std::num::wrapping_add_usize;

@@ -1,4 +1,4 @@
-// The bounds of document 01: how long a document may be, and how deep a value may lie ("The whole check", "Writer and joining").
+// How long a document may be, and how deep a value may lie (RULES.md, "The whole check", "Writer and joining").
 
 // The largest length that a length field, an int32, can say.
 pub const MAX_LEN: usize = 2147483647;

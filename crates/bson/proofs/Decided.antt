@@ -1,4 +1,4 @@
--- The definition says what docs/DECISIONS.md settles.
+-- The definition says what DECISIONS.md settles.
 use mathlib.Core.Path.{refl}
 use Rattle.bson.specs.Bytes.{le32, le64, signed, i32, i64, bytes}
 use Rattle.bson.specs.Utf8.{rows, utf8}

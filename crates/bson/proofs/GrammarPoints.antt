@@ -1,4 +1,4 @@
--- The definition of a tree's bytes, count and depth says what BSON 1.1 and document 01 show of them.
+-- The definition of a tree's bytes, count and depth says what BSON 1.1 and RULES.md show of them.
 use mathlib.Core.Path.{refl}
 use native.Mathlib.Omega.{arith}
 use Rattle.bson.specs.Utf8.{rows, utf8}

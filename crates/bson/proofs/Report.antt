@@ -1,4 +1,4 @@
--- The definition prints of P12 what document 01 prints, and of two more documents what its rules say.
+-- The definition prints of P12 what RULES.md prints, and of two more documents what its rules say.
 use Prim.Native.Nat.{ℕ}
 use mathlib.Core.Path.{_≡_, refl}
 use mathlib.Core.List.{List, [], _∷_, _++_}

@@ -1,4 +1,4 @@
--- The elements of an iteration have the bytes that document 02, request 13, says.
+-- The elements of an iteration have the bytes that RULES.md, request 13, says.
 use mathlib.Core.Path.{refl}
 use Rattle.bson.specs.Bytes.{le32, bytes}
 use Rattle.bson.specs.Utf8.{rows, utf8}

@@ -1,4 +1,4 @@
--- The rows of RFC 3629 have the characters that document 01, module 1, names, and no others at their ends.
+-- The rows of RFC 3629 have the characters that RULES.md, module 1, names, and no others at their ends.
 use mathlib.Core.Path.{refl}
 use Rattle.bson.specs.Utf8.{rows, utf8}
 use Rattle.bson.specs.Decided.{Hold}

@@ -1,4 +1,4 @@
--- The definition says of P1 to P12 what document 01 says.
+-- The definition says of P1 to P12 what RULES.md says.
 use mathlib.Core.Path.{_≡_, refl}
 use Rattle.bson.specs.Bytes.{le32, le64, signed, i32, i64, bytes}
 use Rattle.bson.specs.Utf8.{rows, utf8}

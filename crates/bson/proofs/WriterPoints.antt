@@ -1,4 +1,4 @@
--- The definition of the writer says what document 01 and docs/DECISIONS.md settle.
+-- The definition of the writer says what RULES.md and DECISIONS.md settle.
 use mathlib.Core.Path.{refl}
 use Rattle.bson.specs.Utf8.{rows, utf8}
 use Rattle.bson.specs.Cstring.{validCstr}

@@ -1,5 +1,5 @@
 -- What a call answers: a value, or the number and the place of a refusal; 1 to 13 mean damage, and under a
--- limit 22 (document 01, "Numbers returned"; document 02, request 2).
+-- limit 22 (RULES.md, "Numbers returned"; request 2).
 use Prim.Native.Nat.{ℕ}
 use mathlib.Core.Bool.{Bool, true, false}
 
@@ -7,7 +7,7 @@ pub data Answer (A : Type 0) : Type 0 where
   gives : A → Answer A
   refuses : (number place : ℕ) → Answer A
 
--- "tested in this order": go on with what the first gives; a refusal stays
+-- tests in their order: go on with what the first gives; a refusal stays
 abbrev pub then : {A B : Type 0} → Answer A → (A → Answer B) → Answer B
 then (gives a) f = f a
 then (refuses n p) f = refuses n p

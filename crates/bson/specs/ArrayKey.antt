@@ -1,4 +1,4 @@
--- What a good key of an array is to the strict check (document 01, "The whole check").
+-- What a good key of an array is to the strict check (RULES.md, "The whole check").
 use Prim.Native.Nat.{ℕ}
 use mathlib.Core.List.{List, [], _∷_}
 use mathlib.Core.Bool.{Bool, true, false, _&&_}

@@ -1,4 +1,4 @@
--- Bytes and numbers: little-endian, signed by two's complement (document 01, module 1; BSON 1.1, "Basic Types").
+-- Bytes and numbers: little-endian, signed by two's complement (RULES.md, module 1; BSON 1.1, "Basic Types").
 use Prim.Native.Nat.{ℕ, suc, _+_, _*_, _-_, _<_}
 use mathlib.Core.List.{List, [], _∷_}
 use mathlib.Core.Bool.{Bool, true, false, cond, _&&_}

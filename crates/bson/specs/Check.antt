@@ -1,4 +1,4 @@
--- The whole check, plain and strict (document 01, "The whole check").
+-- The whole check, plain and strict (RULES.md, "The whole check").
 use Prim.Native.Nat.{ℕ, zero, suc, _+_}
 use mathlib.Core.List.{List}
 use mathlib.Core.Bool.{Bool, not, _&&_, _||_}

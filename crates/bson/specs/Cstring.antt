@@ -1,4 +1,4 @@
--- Zero-ended texts: keys, patterns and options (document 01, modules 1 and 2; BSON 1.1, `cstring`).
+-- Zero-ended texts: keys, patterns and options (RULES.md, modules 1 and 2; BSON 1.1, `cstring`).
 use Prim.Native.Nat.{ℕ, suc, _+_}
 use mathlib.Core.List.{List, [], _∷_}
 use mathlib.Core.Bool.{Bool, cond, _&&_}
@@ -18,7 +18,7 @@ isZero b = eqb b 0
 abbrev pub firstZero : List ℕ → ℕ
 firstZero v = before isZero v
 
--- a ceiling on zero-ended texts, `max_cstr_parse_len`: none, or the most bytes that one may have (document 02, request 2)
+-- a ceiling on zero-ended texts, `max_cstr_parse_len`: none, or the most bytes that one may have (RULES.md, request 2)
 pub data Limit : Type 0 where
   unlimited : Limit
   most : ℕ → Limit

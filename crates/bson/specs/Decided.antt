@@ -1,4 +1,4 @@
--- Points that document 01 leaves open, as docs/DECISIONS.md settles them, and a zero byte met as a tag, each by bytes that show it.
+-- Points that RULES.md leaves open, as DECISIONS.md settles them, and a zero byte met as a tag, each by bytes that show it.
 use Prim.Native.Nat.{ℕ}
 use mathlib.Core.Path.{_≡_}
 use mathlib.Core.List.{List, [], _∷_, _++_}

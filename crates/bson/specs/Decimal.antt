@@ -1,4 +1,4 @@
--- A number in decimal (document 01, "Writer and joining": keys "0, 1, 2 on in decimal"; "Bytes to try": the check program's lines).
+-- A number in decimal (RULES.md, "Writer and joining": keys "0, 1, 2 on in decimal"; "Bytes to try": the check program's lines).
 use Prim.Native.Nat.{ℕ, zero, suc, _+_, _/_, _%_}
 use mathlib.Core.List.{List, [], _∷_, _++_}
 use mathlib.Core.Bool.{cond}

@@ -1,5 +1,5 @@
 -- Framing: how many bytes a value has. It "looks at the rest of the slice from the value's first byte, the terminator included"
--- (document 01, "Admission and one step").
+-- (RULES.md, "Admission and one step").
 use Prim.Native.Nat.{ℕ, _+_, _-_}
 use mathlib.Core.List.{List}
 use lib.ListN.{length, getD, drop}

@@ -1,5 +1,5 @@
 -- The bytes, the count, the depth and the texts of trees, each by a tree that shows it: the examples of BSON 1.1 ("Specification"), and a
--- code with scope (document 01, "The whole check").
+-- code with scope (RULES.md, "The whole check").
 use Prim.Native.Nat.{ℕ}
 use mathlib.Core.Path.{_≡_}
 use mathlib.Core.List.{List, [], _∷_}

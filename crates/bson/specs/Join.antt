@@ -1,4 +1,4 @@
--- Joining: one document of the bodies of two (document 01, "Writer and joining").
+-- Joining: one document of the bodies of two (RULES.md, "Writer and joining").
 use Prim.Native.Nat.{ℕ, _+_, _-_}
 use mathlib.Core.List.{List, _++_}
 use mathlib.Core.Bool.{false}
@@ -31,7 +31,7 @@ pub record Joined : Type 0 where
 abbrev pub joined : Outcome → List ℕ → Joined
 joined outcome left = record { outcome = outcome; left = left }
 
--- "tested in this order", of the first, the second or neither; a refusal leaves the buffer as it was
+-- the tests in their order, of the first, the second or neither; a refusal leaves the buffer as it was
 abbrev pub passing : {A : Type 0} → ℕ → Answer A → List ℕ → (A → Joined) → Joined
 passing which (gives a) buffer f = f a
 passing which (refuses number place) buffer f = joined (refused number place which) buffer

@@ -1,4 +1,4 @@
--- What joining answers and leaves, each by two documents and a buffer that show it (document 01, "Writer and joining").
+-- What joining answers and leaves, each by two documents and a buffer that show it (RULES.md, "Writer and joining").
 use Prim.Native.Nat.{ℕ}
 use mathlib.Core.List.{List, [], _∷_}
 use Rattle.bson.specs.Join.{Joined, wrote, refused, joined, join}

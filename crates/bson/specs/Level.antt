@@ -1,4 +1,4 @@
--- What a value opens, and how deep the values inside lie (document 01, "The whole check").
+-- What a value opens, and how deep the values inside lie (RULES.md, "The whole check").
 use Prim.Native.Nat.{ℕ, _+_}
 use mathlib.Core.Bool.{Bool, true, false}
 use Rattle.bson.specs.Bytes.{Part}

@@ -1,4 +1,4 @@
--- What a limit on keys, patterns and options refuses, and what it lets through (document 02, request 2), each by bytes that show it.
+-- What a limit on keys, patterns and options refuses, and what it lets through (RULES.md, request 2), each by bytes that show it.
 use Prim.Native.Nat.{ℕ, _+_}
 use mathlib.Core.List.{List, [], _∷_, _++_}
 use mathlib.Core.Bool.{true, false}

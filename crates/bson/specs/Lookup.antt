@@ -1,4 +1,4 @@
--- Lookup and typed lookup, along the iteration, and `is_empty` (document 01, "Values" and module 5).
+-- Lookup and typed lookup, along the iteration, and `is_empty` (RULES.md, "Values" and module 5).
 use Prim.Native.Nat.{ℕ}
 use mathlib.Core.List.{List}
 use mathlib.Core.Bool.{Bool, cond}

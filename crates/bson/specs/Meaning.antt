@@ -1,5 +1,5 @@
--- What a document means: the elements that iterating it, reading its values and opening its documents, arrays and scopes yields (document
--- 01, "Writer and joining": what the writer closes "reads back"). Nothing here mentions the writer, the check or the bytes of a tree.
+-- What a document means: the elements that iterating it, reading its values and opening its documents, arrays and scopes yields (RULES.md,
+-- "Writer and joining": what the writer closes "reads back"). Nothing here mentions the writer, the check or the bytes of a tree.
 use Prim.Native.Nat.{ℕ}
 use mathlib.Core.Path.{_≡_}
 use mathlib.Core.List.{List}

@@ -1,4 +1,4 @@
--- A lent buffer, and how many of its bytes are used; a text that does not fit is not written (document 01,
+-- A lent buffer, and how many of its bytes are used; a text that does not fit is not written (RULES.md,
 -- "What every answer is bound to").
 use Prim.Native.Nat.{ℕ, _+_}
 use mathlib.Core.List.{List, [], _∷_, _++_}

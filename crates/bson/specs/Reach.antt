@@ -1,5 +1,5 @@
 -- What one comes to from a document by iterating and by opening documents, arrays and scopes, and what is true of it where the
--- document is whole (document 01, "The whole check"). Nothing here mentions the check.
+-- document is whole (RULES.md, "The whole check"). Nothing here mentions the check.
 use Prim.Native.Nat.{ℕ, suc, _+_, _≤_, _<_}
 use mathlib.Core.Path.{_≡_}
 use mathlib.Core.List.{List, [], _∷_, List·Memᴰ}

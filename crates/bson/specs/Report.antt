@@ -1,4 +1,4 @@
--- What the check program prints (document 01, "Bytes to try").
+-- What the check program prints (RULES.md, "Bytes to try").
 use Prim.Native.Nat.{ℕ, _+_, _/_, _%_}
 use mathlib.Core.List.{List, [], _∷_, _++_}
 use mathlib.Core.Bool.{false, cond}

@@ -1,4 +1,4 @@
--- The bytes of the elements that an iteration yields, of slices that end cleanly and of slices that are refused (document 02, request
+-- The bytes of the elements that an iteration yields, of slices that end cleanly and of slices that are refused (RULES.md, request
 -- 13), each by bytes that show it.
 use Prim.Native.Nat.{ℕ}
 use mathlib.Core.List.{List, [], _∷_}

@@ -1,4 +1,4 @@
--- Admission, the cursor, one step and iteration (document 01, "Admission and one step").
+-- Admission, the cursor, one step and iteration (RULES.md, "Admission and one step").
 use Prim.Native.Nat.{ℕ, zero, suc, _+_, _-_}
 use mathlib.Core.List.{List, [], _∷_, _++_}
 use mathlib.Core.Bool.{Bool, true, false, cond, _&&_}

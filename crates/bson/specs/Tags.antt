@@ -1,4 +1,4 @@
--- The tag table: twenty-one rows (document 01, "Admission and one step"; BSON 1.1, `element`).
+-- The tag table: twenty-one rows (RULES.md, "Admission and one step"; BSON 1.1, `element`).
 use Prim.Native.Nat.{ℕ}
 use mathlib.Core.List.{List, [], _∷_}
 use mathlib.Core.Bool.{cond}

@@ -1,4 +1,4 @@
--- UTF-8 as the rows of RFC 3629, section 4: a character is the bytes of one row, each in its range (document 01, module 1).
+-- UTF-8 as the rows of RFC 3629, section 4: a character is the bytes of one row, each in its range (RULES.md, module 1).
 use Prim.Native.Nat.{ℕ}
 use mathlib.Core.List.{List, [], _∷_}
 use mathlib.Core.Bool.{Bool, true, false, cond, _&&_}

@@ -1,4 +1,4 @@
--- What is one character of UTF-8 and what is none, at the ends of each row of RFC 3629 (document 01, module 1), each by its bytes.
+-- What is one character of UTF-8 and what is none, at the ends of each row of RFC 3629 (RULES.md, module 1), each by its bytes.
 use Prim.Native.Nat.{ℕ}
 use mathlib.Core.List.{List, [], _∷_, _++_}
 use mathlib.Core.Bool.{Bool, true, false}

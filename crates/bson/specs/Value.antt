@@ -1,4 +1,4 @@
--- Values: what a framed element holds, and reading at a place (document 01, "Values").
+-- Values: what a framed element holds, and reading at a place (RULES.md, "Values").
 use Prim.Native.Nat.{ℕ, _+_, _-_}
 use mathlib.Core.List.{List}
 use mathlib.Core.Bool.{Bool, false, cond, _&&_}

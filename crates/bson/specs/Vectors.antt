@@ -1,4 +1,4 @@
--- The rows marked P of document 01, "Bytes to try", as a single list under a single claim.
+-- The rows marked P of RULES.md, "Bytes to try", as a single list under a single claim.
 use Prim.Native.Nat.{ℕ, _+_}
 use mathlib.Core.List.{List, [], _∷_}
 use mathlib.Core.Bool.{true, false}

@@ -1,4 +1,4 @@
--- The bounded writer: what each call answers, and the state and the buffer that it leaves (document 01, "Writer and joining").
+-- The bounded writer: what each call answers, and the state and the buffer that it leaves (RULES.md, "Writer and joining").
 use Prim.Native.Nat.{ℕ, zero, suc, _+_, _-_, _*_}
 use mathlib.Core.List.{List, [], _∷_}
 use mathlib.Core.Bool.{Bool, true, false, cond, _&&_}
@@ -17,7 +17,7 @@ use Rattle.bson.specs.Grammar.{bytes32, Item, row, Embedded, document, a
 abbrev pub State : Type 0
 State = List ℕ
 
--- "a fresh state": nothing used, nothing open
+-- "begun fresh": nothing used, nothing open
 unfoldable pub fresh : State
 fresh = replicate 406 0
 

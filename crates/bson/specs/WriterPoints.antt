@@ -1,5 +1,5 @@
--- The writer's refusals and bytes, each by a state, a buffer and a call that show it (document 01, "Writer and joining", and the points of
--- docs/DECISIONS.md).
+-- The writer's refusals and bytes, each by a state, a buffer and a call that show it (RULES.md, "Writer and joining", and the points of
+-- DECISIONS.md).
 use Prim.Native.Nat.{ℕ, zero, suc, _+_, _*_}
 use mathlib.Core.List.{List, [], _∷_}
 use mathlib.Core.Bool.{true}

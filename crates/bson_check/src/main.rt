@@ -1,4 +1,4 @@
-// The check program: reads one document from standard input and prints its elements and the verdict (document 01, "Bytes to try").
+// The check program: reads one document from standard input and prints its elements and the verdict (RULES.md, "Bytes to try").
 ghost use Prim.Native.Nat.{_≤_};
 ghost use lib.ListN.{length};
 use libc::STDIN_FILENO;

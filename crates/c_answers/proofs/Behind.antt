@@ -1,4 +1,4 @@
--- Proof that the numbers of a step lie one behind the other (document 02, request 13; document 01, module 8).
+-- Proof that the numbers of a step lie one behind the other (RULES.md, request 13; module 8).
 use Prim.Native.Nat.{ℕ, _<_}
 use mathlib.Core.Path.{_≡_, refl, sym, _∙_}
 use mathlib.Core.List.{List}

@@ -1,4 +1,4 @@
--- Determined: the numbers of an answer are one struct (document 01, "What every answer is bound to").
+-- Determined: the numbers of an answer are one struct (RULES.md, "What every answer is bound to").
 use mathlib.Core.Path.{sym, _∙_}
 use contract.Lifetimes.{Lfts}
 use borrow.Fn.Kinds.{Dens}

@@ -1,4 +1,4 @@
--- The numbers of a value, as the code gathers them: its tag and bits, and its parts (document 01, "Values").
+-- The numbers of a value, as the code gathers them: its tag and bits, and its parts (RULES.md, "Values").
 use Prim.Native.Nat.{ℕ}
 use mathlib.Core.Path.{_≡_}
 use Rattle.bson.specs.Answer.{gives}

@@ -1,4 +1,4 @@
--- The numbers that C is handed tell the answer: it is had again from them, and a lookup's from them and the document (document 01, "Numbers
+-- The numbers that C is handed tell the answer: it is had again from them, and a lookup's from them and the document (RULES.md, "Numbers
 -- returned" and module 8), whatever the limits.
 use Prim.Native.Nat.{ℕ, _<_}
 use mathlib.Core.Path.{_≡_, refl, sym, ap, _∙_}

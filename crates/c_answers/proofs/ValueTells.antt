@@ -1,5 +1,5 @@
 -- The numbers that C is handed for a value that was read tell the value: from its tag, its number and its parts it is had again
--- (document 01, "Values" and module 8).
+-- (RULES.md, "Values" and module 8).
 use Prim.Native.Nat.{ℕ, _+_, _*_, _-_, _/_, _%_}
 use mathlib.Core.Path.{_≡_, refl, ap, subst}
 use mathlib.Core.List.{List}

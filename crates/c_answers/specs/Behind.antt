@@ -1,5 +1,5 @@
 -- What the numbers of a step say to a caller in C: they lie one behind the other, an open cursor ends at the terminator, and in an admitted
--- document a step is refused where it begins (document 02, request 13; document 01, module 8).
+-- document a step is refused where it begins (RULES.md, request 13; module 8).
 use Prim.Native.Nat.{ℕ, _+_, _<_}
 use mathlib.Core.Path.{_≡_}
 use mathlib.Core.List.{List}

@@ -1,4 +1,4 @@
--- The numbers that a caller in C is handed for each answer: 0 is no refusal, and what a refusal does not give is 0 (document 01, "Numbers
+-- The numbers that a caller in C is handed for each answer: 0 is no refusal, and what a refusal does not give is 0 (RULES.md, "Numbers
 -- returned" and module 8).
 use Prim.Native.Nat.{ℕ, _+_, _*_}
 use mathlib.Core.Bool.{Bool, cond}

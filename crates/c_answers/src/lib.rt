@@ -1,4 +1,4 @@
-// Each answer in numbers, for callers in C: 0 is no refusal, and what a refusal does not give is 0 (document 01, "Numbers returned").
+// Each answer in numbers, for callers in C: 0 is no refusal, and what a refusal does not give is 0 (RULES.md, "Numbers returned").
 ghost use Prim.Native.Nat.{_+_, _*_};
 ghost use mathlib.Core.Path.{_≡_};
 ghost use Rattle.document.specs.Said as document;

@@ -1,4 +1,4 @@
--- What a number that stands for a limit lets be looked at (document 02, request 2).
+-- What a number that stands for a limit lets be looked at (RULES.md, request 2).
 use Prim.Native.Nat.{ℕ, _+_, _<_, _≤_}
 use mathlib.Core.Path.{_≡_, sym}
 use mathlib.Core.List.{List}

@@ -1,4 +1,4 @@
--- Which limit a number says (document 02, request 2).
+-- Which limit a number says (RULES.md, request 2).
 use Prim.Native.Nat.{ℕ}
 use mathlib.Core.Bool.{cond}
 use lib.Dec.{eqb}

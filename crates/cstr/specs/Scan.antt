@@ -1,4 +1,4 @@
--- What the inner functions of the scan say: how far a text is plain, neither zero nor above 127 (document 01, modules 1 and 2).
+-- What the inner functions of the scan say: how far a text is plain, neither zero nor above 127 (RULES.md, modules 1 and 2).
 use Prim.Native.Nat.{ℕ, _+_, _<_, _≤_}
 use mathlib.Core.Path.{_≡_}
 use mathlib.Core.List.{List}

@@ -1,5 +1,5 @@
 -- Powers: the code's table holds the powers of ten, by one computed test, and what a turn of each loop over it
--- leaves (document 02, request 5).
+-- leaves (RULES.md, request 5).
 use Prim.Native.Nat.{ℕ, suc, _+_, _-_, _*_, _%_, _^_, _≤_, _<_}
 use mathlib.Core.Path.{_≡_, sym, ap, _∙_}
 use mathlib.Core.Bool.{true}

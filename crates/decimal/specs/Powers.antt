@@ -1,4 +1,4 @@
--- What a table of powers of ten holds (document 02, request 5: "the powers of ten that decide a key's length").
+-- What a table of powers of ten holds (RULES.md, request 5: "the powers of ten that decide a key's length").
 use Prim.Native.Nat.{ℕ, _<_, _^_}
 use mathlib.Core.Path.{_≡_}
 use mathlib.Core.List.{List}

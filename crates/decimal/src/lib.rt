@@ -1,5 +1,5 @@
-// A number in decimal, into a lent buffer: the one place where digits are made (document 01, "Writer and joining"), by a table of the
-// powers of ten and subtraction (document 02, request 5).
+// A number in decimal, into a lent buffer: the one place where digits are made (RULES.md, "Writer and joining"), by a table of the
+// powers of ten and subtraction (RULES.md, request 5).
 ghost use mathlib.Core.Path.{_≡_};
 ghost use Prim.Native.Nat.{_+_, _*_, _^_, _≤_, _<_};
 ghost use lib.ListN.{length};

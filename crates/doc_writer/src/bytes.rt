@@ -1,4 +1,4 @@
-// The writer with its state by value: texts and bytes (document 01, "Writer and joining").
+// The writer with its state by value: texts and bytes (RULES.md, "Writer and joining").
 ghost use mathlib.Core.Path.{_≡_};
 ghost use Rattle.bson.specs.Value as value;
 ghost use Rattle.bson.specs.Writer as writer;

@@ -1,4 +1,4 @@
-// The writer with its state by value: fresh, opened and closed; what it appends stands in `scalars` and `bytes` (document 01, "Writer and
+// The writer with its state by value: fresh, opened and closed; what it appends stands in `scalars` and `bytes` (RULES.md, "Writer and
 // joining"; src/raw/doc_writer.rs of the Rust).
 pub mod bytes;
 pub mod scalars;

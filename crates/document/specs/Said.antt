@@ -1,4 +1,4 @@
--- What each case of an answer says on paper (document 01, "Values").
+-- What each case of an answer says on paper (RULES.md, "Values").
 use Prim.Native.Nat.{ℕ}
 use mathlib.Core.List.{List}
 use mathlib.Core.Bool.{Bool}

@@ -1,4 +1,4 @@
-// A document: admission, whether it is empty, lookup (document 01, module 5 and "Values"; src/raw/document.rs of the Rust).
+// A document: admission, whether it is empty, lookup (RULES.md, module 5 and "Values"; src/raw/document.rs of the Rust).
 ghost use mathlib.Core.Path.{_≡_};
 ghost use Rattle.bson.specs.Answer.{then};
 ghost use Rattle.bson.specs.Step.{admitted};

@@ -1,4 +1,4 @@
--- Determined: the promise of each call allows one answer and one buffer (document 01, "What every answer is bound to").
+-- Determined: the promise of each call allows one answer and one buffer (RULES.md, "What every answer is bound to").
 use mathlib.Core.Path.{sym, _∙_}
 use contract.Lifetimes.{Lfts}
 use borrow.Fn.Kinds.{Dens}

@@ -1,4 +1,4 @@
--- What a call answers under the number that is passed for a limit is what it answers under the limit (document 02, request 2).
+-- What a call answers under the number that is passed for a limit is what it answers under the limit (RULES.md, request 2).
 use Prim.Native.Nat.{ℕ, _≤_, _<_}
 use mathlib.Core.Path.{_≡_, ap, _∙_}
 use mathlib.Core.List.{List}

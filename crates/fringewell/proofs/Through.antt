@@ -1,4 +1,4 @@
--- How an answer passes the boundary, as the code meets it: first the call, then its numbers (document 01, module 8).
+-- How an answer passes the boundary, as the code meets it: first the call, then its numbers (RULES.md, module 8).
 use Prim.Native.Nat.{ℕ}
 use mathlib.Core.Path.{_≡_, ap, _∙_}
 use mathlib.Core.List.{List}

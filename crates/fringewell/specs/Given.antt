@@ -1,4 +1,4 @@
--- An element as C gives it, by numbers (document 01, "Values").
+-- An element as C gives it, by numbers (RULES.md, "Values").
 use Prim.Native.Nat.{ℕ}
 use Rattle.bson.specs.Bytes.{part}
 use Rattle.bson.specs.Step.{Element}

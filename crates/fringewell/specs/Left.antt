@@ -1,4 +1,4 @@
--- What the calls answer in numbers where they leave more than an answer: a cursor, a lent buffer, a lent state (document 01, "Admission and
+-- What the calls answer in numbers where they leave more than an answer: a cursor, a lent buffer, a lent state (RULES.md, "Admission and
 -- one step" and "Writer and joining").
 use Prim.Native.Nat.{ℕ}
 use mathlib.Core.List.{List}

@@ -1,5 +1,5 @@
-// The functions that the C service calls: byte slices and numbers in, structs of numbers out (document 01, module 8). Each is one call of
-// what it is named for; what it answers in numbers is in `numbers`, and include/fringewell.h says it to C.
+// The functions that the C service calls: byte slices and numbers in, structs of numbers out (RULES.md, module 8). Each is one call of
+// what it is named for; what it answers in numbers is in `c_answers`, and include/fringewell.h says it to C.
 ghost use mathlib.Core.Path.{_≡_};
 ghost use mathlib.Core.Bool.{true, false};
 ghost use Rattle.bson.specs.Check.{checkUnder, check};

@@ -1,4 +1,4 @@
--- Determined: the promise of each call allows one answer (document 01, "What every answer is bound to").
+-- Determined: the promise of each call allows one answer (RULES.md, "What every answer is bound to").
 use Prim.Native.Nat.{ℕ}
 use mathlib.Core.Path.{_≡_, refl, sym, _∙_}
 use contract.Lifetimes.{Lfts}

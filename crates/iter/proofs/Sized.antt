@@ -1,4 +1,4 @@
--- What is made of the sizes that a step tells is the element that it yields: no sum of it wraps (document 01, "Admission and one step").
+-- What is made of the sizes that a step tells is the element that it yields: no sum of it wraps (RULES.md, "Admission and one step").
 use Prim.Native.Nat.{ℕ, _+_, _%_, _^_, _<_}
 use mathlib.Core.Path.{_≡_, sym, ap, _∙_}
 use mathlib.Core.List.{List}

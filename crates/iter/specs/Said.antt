@@ -1,4 +1,4 @@
--- What cursors, elements and the cases of an answer say on paper, and the cursor behind a step (document 01, "Admission and one step").
+-- What cursors, elements and the cases of an answer say on paper, and the cursor behind a step (RULES.md, "Admission and one step").
 use Prim.Native.Nat.{ℕ, _+_, _%_, _^_}
 use mathlib.Core.Path.{_≡_}
 use Rattle.bson.specs.Answer.{Answer, gives, refuses}

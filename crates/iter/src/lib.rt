@@ -1,4 +1,4 @@
-// The cursor and the step (document 01, "Admission and one step"; src/raw/iter.rs of the Rust).
+// The cursor and the step (RULES.md, "Admission and one step"; src/raw/iter.rs of the Rust).
 ghost use mathlib.Core.Path.{_≡_};
 ghost use mathlib.Core.Bool.{true, false};
 ghost use Prim.Native.Nat.{_+_, _%_, _^_, _<_};

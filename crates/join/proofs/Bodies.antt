@@ -1,5 +1,5 @@
 -- How both bodies come into the buffer, as the code meets it: the test for room, and four texts one after the other
--- (document 01, "Writer and joining").
+-- (RULES.md, "Writer and joining").
 use Prim.Native.Nat.{ℕ, _+_, _-_, _≤_, _<_}
 use mathlib.Core.Path.{_≡_, refl, ap, _∙_}
 use mathlib.Core.List.{List, [], _∷_}

@@ -1,4 +1,4 @@
--- Determined: the promise of a join allows one answer and one buffer (document 01, "What every answer is bound to").
+-- Determined: the promise of a join allows one answer and one buffer (RULES.md, "What every answer is bound to").
 use mathlib.Core.Path.{_≡_, refl, sym, ap, _∙_}
 use contract.Lifetimes.{Lfts}
 use borrow.Fn.Kinds.{Dens}

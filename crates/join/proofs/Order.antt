@@ -1,5 +1,5 @@
 -- The order of the tests, as the code meets it: the check of the first, then of the second, then the room
--- (document 01, "Writer and joining").
+-- (RULES.md, "Writer and joining").
 use Prim.Native.Nat.{ℕ}
 use mathlib.Core.Path.{_≡_}
 use mathlib.Core.List.{List}

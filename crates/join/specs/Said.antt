@@ -1,4 +1,4 @@
--- What the cases of a join say on paper (document 01, "Writer and joining").
+-- What the cases of a join say on paper (RULES.md, "Writer and joining").
 use Rattle.bson.specs.Join.{Outcome, wrote, refused}
 use Rattle.join.specs.declared.Joined.{Joined}
 use Rattle.join.specs.declared.Joined.the-variants.{Wrote, Refused}

@@ -1,4 +1,4 @@
-// Joining two documents into one in a lent buffer (document 01, "Writer and joining").
+// Joining two documents into one in a lent buffer (RULES.md, "Writer and joining").
 ghost use mathlib.Core.Path.{_≡_};
 ghost use Prim.Native.Nat.{_≤_};
 ghost use lib.ListN.{length};

@@ -1,4 +1,4 @@
--- How a step goes at each cursor, that it ends only at the terminator, where it refuses, and where the next one begins (document 01,
+-- How a step goes at each cursor, that it ends only at the terminator, where it refuses, and where the next one begins (RULES.md,
 -- "Admission and one step").
 use Prim.Native.Nat.{ℕ, _≤_, _<_}
 use mathlib.Core.Path.{_≡_, refl, sym, ap, _∙_}

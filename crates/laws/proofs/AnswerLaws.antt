@@ -1,4 +1,4 @@
--- What an answer that gives says of the tests before it, and by which numbers one refuses (document 01, "Numbers returned").
+-- What an answer that gives says of the tests before it, and by which numbers one refuses (RULES.md, "Numbers returned").
 use Prim.Native.Nat.{ℕ, _-_}
 use mathlib.Core.Path.{_≡_, refl, ap, sym, subst, _∙_}
 use mathlib.Core.List.{List, [], _∷_}

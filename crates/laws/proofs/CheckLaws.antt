@@ -1,5 +1,5 @@
--- The walk of the whole check goes from step to step and into what values open; its fuel never runs out, and its count is small (document
--- 01, "The whole check").
+-- The walk of the whole check goes from step to step and into what values open; its fuel never runs out, and its count is small (RULES.md,
+-- "The whole check").
 use Prim.Native.Nat.{ℕ, zero, suc, _+_, _-_, _≤_, _<_}
 use mathlib.Core.Path.{_≡_, refl, sym, ap, _∙_}
 use mathlib.Core.List.{List}

@@ -1,4 +1,4 @@
--- How many digits a number has, that they name it, and that they are a valid key (document 01, "Writer and joining": keys "0, 1, 2 on in
+-- How many digits a number has, that they name it, and that they are a valid key (RULES.md, "Writer and joining": keys "0, 1, 2 on in
 -- decimal").
 use Prim.Native.Nat.{ℕ, zero, suc, _+_, _-_, _*_, _/_, _%_, _^_, _≤_, _<_}
 use mathlib.Core.Path.{_≡_, refl, ap, _∙_}

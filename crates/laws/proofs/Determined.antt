@@ -1,4 +1,4 @@
--- Determined: two answers that the promise of a call allows are equal (document 01, "What every answer is bound to").
+-- Determined: two answers that the promise of a call allows are equal (RULES.md, "What every answer is bound to").
 use Prim.Native.Nat.{ℕ}
 use mathlib.Core.Path.{_≡_, ap, sym, _∙_}
 use mathlib.Core.List.{List}

@@ -1,4 +1,4 @@
--- A size that framing gives fits the rest of the slice, and is no less than its class asks (document 01, "Admission and one step").
+-- A size that framing gives fits the rest of the slice, and is no less than its class asks (RULES.md, "Admission and one step").
 use Prim.Native.Nat.{ℕ, _+_, _-_, _≤_, _<_}
 use mathlib.Core.Path.{_≡_, refl, sym, ap, _∙_}
 use mathlib.Core.List.{List}

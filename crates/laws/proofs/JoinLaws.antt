@@ -1,5 +1,5 @@
 -- What follows from the definition of joining: how long the joined document is, that a refusal leaves the buffer as it was, and that the
--- bytes behind stay (document 01, "Writer and joining").
+-- bytes behind stay (RULES.md, "Writer and joining").
 use Prim.Native.Nat.{ℕ, _+_, _-_, _≤_}
 use mathlib.Core.Path.{_≡_, refl, sym, ap, _∙_}
 use mathlib.Core.List.{List, [], _∷_, _++_, append-assoc}

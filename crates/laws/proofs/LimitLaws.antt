@@ -1,5 +1,5 @@
 -- What a limit on keys, patterns and options changes: where reading a zero-ended text answers the same under two limits, or 22 under the
--- first, so does every call (document 02, request 2).
+-- first, so does every call (RULES.md, request 2).
 use Prim.Native.Nat.{ℕ, zero, suc, _+_, _≤_}
 use mathlib.Core.Path.{_≡_, refl}
 use mathlib.Core.List.{List}

@@ -1,5 +1,5 @@
 -- Lookup goes from step to step: what each answer of the step at an offset means for the search from there; what is found is had again at
--- its place, and lies in the slice; and a typed getter gives the number of the value found (document 01, "Values").
+-- its place, and lies in the slice; and a typed getter gives the number of the value found (RULES.md, "Values").
 use Prim.Native.Nat.{ℕ, zero, suc, _+_, _≤_}
 use mathlib.Core.Path.{_≡_, refl, sym, ap, subst, _∙_}
 use mathlib.Core.List.{List}

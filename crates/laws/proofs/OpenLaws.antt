@@ -1,4 +1,4 @@
--- What a value opens: it lies inside the value, and is a document by itself (document 01, "Values").
+-- What a value opens: it lies inside the value, and is a document by itself (RULES.md, "Values").
 use Prim.Native.Nat.{ℕ, _+_, _-_, _≤_, _<_}
 use mathlib.Core.Path.{_≡_, refl, sym, ap, subst, _∙_}
 use mathlib.Core.List.{List}

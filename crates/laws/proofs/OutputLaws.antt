@@ -1,4 +1,4 @@
--- What follows from the definition of a lent buffer: one run after the other is one run, and the bytes behind stay (document 01, "What
+-- What follows from the definition of a lent buffer: one run after the other is one run, and the bytes behind stay (RULES.md, "What
 -- every answer is bound to").
 use Prim.Native.Nat.{ℕ, _+_, _-_, _≤_, _<_}
 use mathlib.Core.Path.{_≡_, refl, sym, ap, subst, _∙_}

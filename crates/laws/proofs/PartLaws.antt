@@ -1,4 +1,4 @@
--- The parts of a value that a reading gives lie in the slice (document 01, "Values").
+-- The parts of a value that a reading gives lie in the slice (RULES.md, "Values").
 use Prim.Native.Nat.{ℕ, _+_, _-_, _≤_}
 use mathlib.Core.Path.{_≡_, subst}
 use mathlib.Core.List.{List}

@@ -1,4 +1,4 @@
--- A reading at a place is the reading of what the step there yields (document 01, "Values").
+-- A reading at a place is the reading of what the step there yields (RULES.md, "Values").
 use Prim.Native.Nat.{ℕ}
 use mathlib.Core.Path.{_≡_, ap}
 use mathlib.Core.List.{List}

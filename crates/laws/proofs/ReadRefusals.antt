@@ -1,4 +1,4 @@
--- Every reading call, and joining, refuses by numbers that document 01, "Numbers returned", gives it, so never by 0: the fuel of the
+-- Every reading call, and joining, refuses by numbers that RULES.md, "Numbers returned", gives it, so never by 0: the fuel of the
 -- iteration and of the walk does not run out.
 use Prim.Native.Nat.{ℕ, zero, suc, _+_, _-_, _<_}
 use mathlib.Core.Path.{_≡_, refl, sym, ap, _∙_}

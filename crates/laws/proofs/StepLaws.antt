@@ -1,4 +1,4 @@
--- What admission and a step that yields say, and that iteration goes on from step to step (document 01, "Admission and one step").
+-- What admission and a step that yields say, and that iteration goes on from step to step (RULES.md, "Admission and one step").
 use Prim.Native.Nat.{ℕ, zero, suc, _+_, _-_, _≤_, _<_}
 use mathlib.Core.Path.{_≡_, refl, sym, ap, _∙_}
 use mathlib.Core.List.{List}

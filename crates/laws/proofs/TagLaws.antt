@@ -1,4 +1,4 @@
--- The tag table: a type says its tag, and how the size of its values is found (document 01, "Admission and one step").
+-- The tag table: a type says its tag, and how the size of its values is found (RULES.md, "Admission and one step").
 use Prim.Native.Nat.{ℕ}
 use mathlib.Core.Path.{_≡_, subst, ap, sym, _∙_}
 use mathlib.Core.List.{List, [], _∷_}

@@ -1,4 +1,4 @@
--- What may be left of a row of RFC 3629, and when two such are the same; a byte below 128 is a character (document 01, module 1).
+-- What may be left of a row of RFC 3629, and when two such are the same; a byte below 128 is a character (RULES.md, module 1).
 use Prim.Native.Nat.{ℕ, _<_}
 use mathlib.Core.Path.{_≡_, refl}
 use mathlib.Core.List.{List, [], _∷_}

@@ -1,5 +1,5 @@
 -- What an accepted call of the writer says, and when a call is accepted; and that it keeps the bytes behind its output
--- (document 01, "Writer and joining").
+-- (RULES.md, "Writer and joining").
 use Prim.Native.Nat.{ℕ, suc, _+_, _-_, _≤_, _<_}
 use mathlib.Core.Path.{_≡_, sym, ap, subst, _∙_}
 use mathlib.Core.List.{List, [], _∷_}

@@ -1,5 +1,5 @@
 -- The numbers by which the writer refuses a call: 13, 14, 15 or 18, and a closing by 18 alone, so 0 tells an accepted call; and that a
--- refused one changes nothing (document 01, "Writer and joining").
+-- refused one changes nothing (RULES.md, "Writer and joining").
 use Prim.Native.Nat.{ℕ, _+_, _-_}
 use mathlib.Core.Path.{_≡_, refl, sym}
 use mathlib.Core.List.{List, [], _∷_}

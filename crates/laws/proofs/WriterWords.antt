@@ -1,4 +1,4 @@
--- The words of a writer's state: of a fresh one, after an element more, after an opening and after a closing (document 01, "Writer and
+-- The words of a writer's state: of a fresh one, after an element more, after an opening and after a closing (RULES.md, "Writer and
 -- joining").
 use Prim.Native.Nat.{ℕ, zero, suc, _+_, _-_, _≤_, _<_}
 use mathlib.Core.Path.{_≡_, refl, ap, _∙_}

@@ -1,5 +1,5 @@
 -- An element that is framed at a cursor, under whatever limit: where it lies, and that its key and its value are framed there. A step that
--- yields an element frames it so (document 01, "Admission and one step").
+-- yields an element frames it so (RULES.md, "Admission and one step").
 use Prim.Native.Nat.{ℕ, _+_, _≤_, _<_}
 use mathlib.Core.Path.{_≡_}
 use mathlib.Core.List.{List}

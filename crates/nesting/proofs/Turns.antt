@@ -1,4 +1,4 @@
--- Opening and closing as the code meets them: refused by the number, or done (document 01, "Writer and joining").
+-- Opening and closing as the code meets them: refused by the number, or done (RULES.md, "Writer and joining").
 use Prim.Native.Nat.{ℕ, _+_, _-_, _≤_, _<_}
 use mathlib.Core.Path.{_≡_, refl, sym, ap, _∙_}
 use mathlib.Core.List.{List, [], _∷_}

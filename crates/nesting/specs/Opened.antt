@@ -1,4 +1,4 @@
--- An element opened whose tag and mark are given, and a state with one document more, as the inner functions answer (document 01, "Writer
+-- An element opened whose tag and mark are given, and a state with one document more, as the inner functions answer (RULES.md, "Writer
 -- and joining").
 use Prim.Native.Nat.{ℕ, _+_}
 use mathlib.Core.List.{List}

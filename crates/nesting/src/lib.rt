@@ -1,4 +1,4 @@
-// Opening and closing documents and arrays in a lent state (document 01, "Writer and joining").
+// Opening and closing documents and arrays in a lent state (RULES.md, "Writer and joining").
 ghost use mathlib.Core.Path.{_≡_};
 ghost use mathlib.Core.List.{[], _∷_};
 ghost use Prim.Native.Nat.{_+_, _-_, _≤_, _<_};

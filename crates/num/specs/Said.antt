@@ -1,4 +1,4 @@
--- What each case of an answer says on paper: the value, or a refusal by its number at no place of its own (document 01, module 1).
+-- What each case of an answer says on paper: the value, or a refusal by its number at no place of its own (RULES.md, module 1).
 use Prim.Native.Nat.{ℕ}
 use mathlib.Core.Bool.{Bool}
 use lib.IntN.{ℤ}

@@ -1,4 +1,4 @@
--- Determined: the promise of each call allows one answer and one buffer (document 01, "What every answer is bound to").
+-- Determined: the promise of each call allows one answer and one buffer (RULES.md, "What every answer is bound to").
 use Prim.Native.Nat.{ℕ}
 use mathlib.Core.Path.{_≡_, ap, sym, _∙_}
 use mathlib.Core.List.{List}

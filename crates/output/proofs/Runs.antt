@@ -1,4 +1,4 @@
--- What a few stores leave, and a text put in two runs (document 01, "What every answer is bound to").
+-- What a few stores leave, and a text put in two runs (RULES.md, "What every answer is bound to").
 use Prim.Native.Nat.{ℕ, suc, _+_, _≤_, _<_}
 use mathlib.Core.Path.{_≡_, refl, sym, ap, _∙_}
 use mathlib.Core.List.{List, [], _∷_, _++_, append-assoc}

@@ -1,4 +1,4 @@
-// A text put into a lent buffer, all of it or nothing (document 01, "What every answer is bound to").
+// A text put into a lent buffer, all of it or nothing (RULES.md, "What every answer is bound to").
 ghost use mathlib.Core.Path.{_≡_};
 ghost use Prim.Native.Nat.{_+_, _≤_, _<_};
 ghost use lib.Dec.{leb};

@@ -1,5 +1,5 @@
 -- What parts and lengths of the code say on paper: the same offset and size; a length, or a refusal by its number at no place of its own
--- (document 01, "What must change shape").
+-- (RULES.md, "What must change shape").
 use Prim.Native.Nat.{ℕ}
 use Rattle.bson.specs.Answer.{Answer, gives, refuses}
 use Rattle.bson.specs.Bytes as paper

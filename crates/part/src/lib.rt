@@ -1,4 +1,4 @@
-// A part of a slice, as an offset and a size, a byte of it, and a length of what lies in it (document 01, "What must change shape").
+// A part of a slice, as an offset and a size, a byte of it, and a length of what lies in it (RULES.md, "What must change shape").
 ghost use mathlib.Core.Path.{_≡_};
 ghost use lib.ListN.{getD};
 ghost use Rattle.bson.specs.Bytes.{bytes};

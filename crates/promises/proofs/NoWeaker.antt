@@ -1,5 +1,5 @@
 -- What C is told of a call that writes is all that the call itself promises: its number and what it leaves, and besides the bytes used
--- (document 01, "Writer and joining").
+-- (RULES.md, "Writer and joining").
 use Prim.Native.Nat.{ℕ}
 use mathlib.Core.Path.{_≡_, sym, ap, _∙_}
 use mathlib.Core.List.{List}
@@ -9,7 +9,7 @@ use Rattle.fringewell.specs.Left.{leaves, performs}
 
 module _ (c : writer.Call) (state exit-state buffer exit : List ℕ) (n : WrittenNumbers)
     (promise : leaves n exit-state exit ≡ performs c state buffer) where
-  -- so a session through C is one of the definition, and what it closes reads back by `writer-reads-back`
+  -- of one call; what a session closes reads back by `writer-reads-back`, call by call
   pub performs-says : writer.written (n .number) exit-state exit ≡ writer.performed c state buffer
   unfolding performs
   performs-says = ap (λ (x : WrittenNumbers × writer.Desk). record { number = x .0 .number; left = x .1 }) promise

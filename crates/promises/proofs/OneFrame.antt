@@ -1,5 +1,5 @@
 -- What the whole check answers C in numbers says of a document's tree: 0 with n, exactly where it is the bytes of a good tree of n values
--- (BSON 1.1, "Specification"; document 01, "The whole check" and module 8).
+-- (BSON 1.1, "Specification"; RULES.md, "The whole check" and module 8).
 use Prim.Native.Nat.{ℕ}
 use mathlib.Core.Path.{_≡_, refl, ap}
 use mathlib.Core.List.{List}

@@ -1,4 +1,4 @@
--- An element that a step or a lookup gave is read by its numbers as at its place, without a second step (document 01, "Values"), under a
+-- An element that a step or a lookup gave is read by its numbers as at its place, without a second step (RULES.md, "Values"), under a
 -- limit and without one.
 use Prim.Native.Nat.{ℕ}
 use mathlib.Core.Path.{_≡_, refl, sym, ap, _∙_}

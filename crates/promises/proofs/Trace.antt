@@ -1,5 +1,5 @@
 -- A trace of turns is a run of the definition, so what it closes reads back; a refused turn changes nothing, and every turn keeps the bytes
--- behind its output (demand 2; document 01, "Writer and joining").
+-- behind its output (demand 2; RULES.md, "Writer and joining").
 use Prim.Native.Nat.{ℕ, zero, suc}
 use mathlib.Core.Path.{_≡_, refl, sym, ap, subst, _∙_}
 use mathlib.Core.Bool.{true, true≢false}

@@ -1,5 +1,5 @@
 -- Turns of the writer, each a call of a public function with an answer that its promise allows, and what is closed by them (demand 2;
--- document 01, "Writer and joining").
+-- RULES.md, "Writer and joining").
 use Prim.Native.Nat.{ℕ, zero, suc}
 use mathlib.Core.Bool.{Bool}
 use mathlib.Core.List.{List, [], _∷_}
@@ -43,7 +43,7 @@ use Rattle.doc_writer.proofs.bytes.append_decimal128.Reads as append-decimal128
 abbrev pub Lent : Type 0
 Lent = RefT (List ℕ)
 
--- "a fresh state": one that `new` may answer
+-- "begun fresh": a state that `new` may answer
 pub data Fresh (w : DocWriter) : Type 0 where
   news : (κs : Lfts 0) (s : _) → new-reads.Post κs tt w s → Fresh w
 

@@ -1,4 +1,4 @@
--- Determined: the promise of each call allows one answer (document 01, "What every answer is bound to").
+-- Determined: the promise of each call allows one answer (RULES.md, "What every answer is bound to").
 use mathlib.Core.Path.{sym, _∙_, _≡_, refl}
 use contract.Lifetimes.{Lfts}
 use borrow.Fn.Kinds.{Dens}

@@ -1,4 +1,4 @@
--- What each case of `PatternOptions` says on paper: the two parts, or a refusal by its number at no place of its own (document 01,
+-- What each case of `PatternOptions` says on paper: the two parts, or a refusal by its number at no place of its own (RULES.md,
 -- "Admission and one step").
 use Prim.Native.Nat.{_+_}
 use Rattle.bson.specs.Answer.{Answer, gives, refuses}

@@ -1,4 +1,4 @@
-// Framing: how many bytes the value of a tag has at the front of a part; and admission (document 01, "Admission and one step"; src/raw.rs,
+// Framing: how many bytes the value of a tag has at the front of a part; and admission (RULES.md, "Admission and one step"; src/raw.rs,
 // src/raw/iter.rs and src/raw/document.rs of the Rust).
 ghost use mathlib.Core.Path.{_≡_};
 ghost use Prim.Native.Nat.{_≤_, _<_};

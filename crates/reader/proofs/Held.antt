@@ -1,5 +1,5 @@
 -- What the walks over a reader share: its type, how it is made of a slice and taken apart, and what a call
--- gives back (document 01, "Values").
+-- gives back (RULES.md, "Values").
 use mathlib.Core.Path.{_≡_, refl}
 use Prim.Native.Nat.{ℕ, _<_, _^_}
 use mathlib.Core.List.{List, [], _∷_}

@@ -1,4 +1,4 @@
--- A reader at the first element, a reader moved to a cursor, and the cursor that a reader carries (document 01, "Values").
+-- A reader at the first element, a reader moved to a cursor, and the cursor that a reader carries (RULES.md, "Values").
 use Prim.Native.Nat.{ℕ}
 use mathlib.Core.List.{List}
 use mathlib.Core.Bool.{false}

@@ -1,4 +1,4 @@
-// A reader that carries the document and its cursor together (document 01, "Values"; `RawIter` in src/raw/iter.rs of the Rust).
+// A reader that carries the document and its cursor together (RULES.md, "Values"; `RawIter` in src/raw/iter.rs of the Rust).
 ghost use mathlib.Core.Path.{_≡_};
 ghost use Rattle.bson.specs.Step.{cursor, step};
 ghost use Rattle.iter.specs.Said.{saidCursor, Answers};

@@ -1,4 +1,4 @@
--- What the cases of a reading, the parts and which of them say on paper (document 01, "Values").
+-- What the cases of a reading, the parts and which of them say on paper (RULES.md, "Values").
 use Rattle.bson.specs.Answer.{Answer, gives, refuses}
 use Rattle.bson.specs.Bytes as bytes
 use Rattle.bson.specs.Step as step

@@ -1,4 +1,4 @@
-// Reading a value at a place, and the parts of a value (document 01, "Values"; `RawElement::value` in src/raw/iter.rs of the Rust).
+// Reading a value at a place, and the parts of a value (RULES.md, "Values"; `RawElement::value` in src/raw/iter.rs of the Rust).
 pub mod parts;
 
 ghost use mathlib.Core.Path.{_≡_};

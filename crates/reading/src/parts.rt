@@ -1,4 +1,4 @@
-// The parts of a value at a place, each as a part of the lent slice (document 01, "Values" and "What must change shape"). The twin
+// The parts of a value at a place, each as a part of the lent slice (RULES.md, "Values" and "What must change shape"). The twin
 // of each is `read_with` with its tag; where that refuses, the part is empty.
 ghost use mathlib.Core.Path.{_≡_};
 ghost use Rattle.bson.specs.Value.{first, second, partAt};

@@ -1,4 +1,4 @@
--- The element lines go from step to step: what each answer of the step at an offset means for the lines from there (document 01, "Bytes to
+-- The element lines go from step to step: what each answer of the step at an offset means for the lines from there (RULES.md, "Bytes to
 -- try").
 use Prim.Native.Nat.{ℕ, _≤_, _<_}
 use mathlib.Core.Path.{_≡_, refl, ap, sym, _∙_}

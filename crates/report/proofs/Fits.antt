@@ -1,4 +1,4 @@
--- 524,288 bytes hold every report: what the check program writes is the definition's report, whole (document 01, "Bytes to try").
+-- 524,288 bytes hold every report: what the check program writes is the definition's report, whole (RULES.md, "Bytes to try").
 use Prim.Native.Nat.{ℕ, _+_, _-_, _*_, _^_, _≤_, _<_}
 use mathlib.Core.Path.{_≡_, refl, ap, _∙_}
 use mathlib.Core.List.{List, [], _∷_, _++_}

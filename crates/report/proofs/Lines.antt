@@ -1,4 +1,4 @@
--- The lines of an element and of a verdict, as the code makes them piece by piece (document 01, "Bytes to try").
+-- The lines of an element and of a verdict, as the code makes them piece by piece (RULES.md, "Bytes to try").
 use Prim.Native.Nat.{ℕ, _+_, _/_, _%_}
 use mathlib.Core.Path.{_≡_}
 use mathlib.Core.List.{List, [], _∷_}

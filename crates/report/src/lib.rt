@@ -1,4 +1,4 @@
-// What the check program prints, put into a lent buffer line by line (document 01, "Bytes to try").
+// What the check program prints, put into a lent buffer line by line (RULES.md, "Bytes to try").
 ghost use mathlib.Core.Path.{_≡_};
 ghost use Prim.Native.Nat.{_<_, _≤_};
 ghost use lib.ListN.{length, take};

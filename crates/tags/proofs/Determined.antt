@@ -1,4 +1,4 @@
--- Determined: the promise of a call allows one answer (document 01, "What every answer is bound to").
+-- Determined: the promise of a call allows one answer (RULES.md, "What every answer is bound to").
 use mathlib.Core.Path.{_≡_, refl, sym, _∙_}
 use contract.Lifetimes.{Lfts}
 use borrow.Fn.Kinds.{Dens}

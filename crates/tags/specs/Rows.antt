@@ -1,4 +1,4 @@
--- Which row of the code's table a tag has: 01 to 13, then FF and 7F; 21 is no row (document 01, "Admission and one step").
+-- Which row of the code's table a tag has: 01 to 13, then FF and 7F; 21 is no row (RULES.md, "Admission and one step").
 use Prim.Native.Nat.{ℕ, _-_}
 use mathlib.Core.Bool.{cond}
 use lib.Dec.{eqb, ltb}

@@ -1,4 +1,4 @@
--- What each case of `Kind` says on paper: how a value is sized, or the refusal 7 of a tag that is not in the tag table (document 01,
+-- What each case of `Kind` says on paper: how a value is sized, or the refusal 7 of a tag that is not in the tag table (RULES.md,
 -- "Admission and one step").
 use Rattle.bson.specs.Answer.{Answer, gives, refuses}
 use Rattle.bson.specs.Tags.{Sized, fixed, asString, asPointer, asDocument, asBinary, asRegex, asScope}

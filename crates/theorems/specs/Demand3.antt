@@ -1,4 +1,4 @@
--- Demand 3 as one statement: what the whole check finds out, and what a passed slice then answers (document 01, "The whole check"). What is
+-- Demand 3 as one statement: what the whole check finds out, and what a passed slice then answers (RULES.md, "The three demands"). What is
 -- reachable, whole, absent and first is said in bson/specs/Reach.antt, without the check.
 use Prim.Native.Nat.{ℕ}
 use mathlib.Core.Path.{_≡_}

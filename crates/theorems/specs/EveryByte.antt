@@ -1,5 +1,5 @@
 -- Every byte of a document has one role: it is of the length, of an element's tag, key, zero or value, or the terminator (BSON 1.1,
--- `document` and `element`; document 01, "Admission and one step").
+-- `document` and `element`; RULES.md, "Admission and one step").
 use Prim.Native.Nat.{ℕ, _+_, _≤_, _<_}
 use mathlib.Core.Path.{_≡_}
 use mathlib.Core.List.{List}

@@ -1,5 +1,5 @@
 -- Every yielded byte is accounted for: of an admitted slice, passed or refused, under a limit on keys or under
--- none (document 02, request 13).
+-- none (RULES.md, request 13).
 use Prim.Native.Nat.{ℕ, _+_, _-_, _≤_, _<_}
 use mathlib.Core.Path.{_≡_}
 use mathlib.Core.List.{List, [], _∷_}

@@ -1,4 +1,4 @@
--- The first child of a key in a tree, and what a lookup answers of it (document 01, "Values": a lookup "goes by equal bytes, stops at
+-- The first child of a key in a tree, and what a lookup answers of it (RULES.md, "Values": a lookup "goes by equal bytes, stops at
 -- the first match and reads it").
 use Prim.Native.Nat.{ℕ}
 use mathlib.Core.Path.{_≡_}

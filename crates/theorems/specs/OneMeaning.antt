@@ -1,5 +1,6 @@
--- One frame, one meaning: the whole check passes exactly the bytes of good trees, and each frame has one tree (BSON 1.1, "Specification";
--- document 01, "The whole check"). The tree is bson/specs/Grammar.antt, what a slice means bson/specs/Meaning.antt.
+-- One frame, one meaning: the whole check passes exactly the bytes of good trees, none deeper than 200, and each frame has one tree
+-- (BSON 1.1, "Specification"; RULES.md, "The whole check"). The tree is bson/specs/Grammar.antt, and what a slice means
+-- bson/specs/Meaning.antt.
 use Prim.Native.Nat.{ℕ, _<_}
 use mathlib.Core.Path.{_≡_}
 use mathlib.Core.List.{List}

@@ -1,4 +1,4 @@
--- What a limit on keys, patterns and options does, as one statement (document 02, request 2): how a text is read under it, and that it
+-- What a limit on keys, patterns and options does, as one statement (RULES.md, request 2): how a text is read under it, and that it
 -- turns an answer into 22 and into nothing else. Demand 3 under a limit is said in Demand3.antt, for every limit and for none.
 use Prim.Native.Nat.{ℕ, _+_, _≤_}
 use mathlib.Core.Path.{_≡_}

@@ -1,5 +1,5 @@
 -- What the writer closes reads back as exactly the elements given, and every tree can be written (demand 2;
--- document 01, "Writer and joining").
+-- RULES.md, "Writer and joining").
 use Prim.Native.Nat.{ℕ, suc}
 use mathlib.Core.Path.{_≡_}
 use mathlib.Core.List.{List, [], _∷_}

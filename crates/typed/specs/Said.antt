@@ -1,4 +1,4 @@
--- What each case of an answer says on paper: the number, or a refusal by its number and place (document 01, "Values").
+-- What each case of an answer says on paper: the number, or a refusal by its number and place (RULES.md, "Values").
 use Prim.Native.Nat.{ℕ}
 use mathlib.Core.Bool as truth
 use lib.IntN.{ℤ}

@@ -1,4 +1,4 @@
-// Typed lookup: `get_f64`, `get_str` and their like (document 01, "Values"; src/raw/document.rs of the Rust). Each refuses with 16, the
+// Typed lookup: `get_f64`, `get_str` and their like (RULES.md, "Values"; src/raw/document.rs of the Rust). Each refuses with 16, the
 // value's refusal, then 17.
 ghost use mathlib.Core.Path.{_≡_};
 ghost use Rattle.bson.specs.Bytes.{le64, i32, i64};

@@ -1,4 +1,4 @@
--- Agree: the table and the window answer alike on every slice (document 02, request 8).
+-- Agree: the table and the window answer alike on every slice (RULES.md, request 8).
 use mathlib.Core.Path.{sym, _∙_}
 use contract.Lifetimes.{Lfts}
 use borrow.Fn.Kinds.{Dens}

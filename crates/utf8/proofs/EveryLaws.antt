@@ -1,4 +1,4 @@
--- What a test of every list of ranges says of one of them; tests of Bools (document 01, module 1).
+-- What a test of every list of ranges says of one of them; tests of Bools (RULES.md, module 1).
 use mathlib.Core.Path.{_≡_, refl, subst, sym}
 use mathlib.Core.List.{List, [], _∷_}
 use mathlib.Core.Bool.{Bool, true, false, not, _&&_, _||_, Bool·beq}

@@ -1,4 +1,4 @@
--- TableLaws: the two tables are the rows of RFC 3629, by one test of every byte behind every state (document 02, request 8).
+-- TableLaws: the two tables are the rows of RFC 3629, by one test of every byte behind every state (RULES.md, request 8).
 use Prim.Native.Nat.{ℕ, zero, suc, _+_, _*_, _/_, _%_, _<_, _≤_}
 use mathlib.Core.Path.{_≡_, refl, ap, sym, _∙_}
 use mathlib.Core.List.{List, [], _∷_}
@@ -46,7 +46,7 @@ isState x l = eqb x (6 * (x / 6)) && (ltb (x / 6) 9 && sameLeft (leftOf (x / 6))
 abbrev isRight : List ℕ → List ℕ → ℕ → ℕ → Bool
 isRight c m k b = ltb (classOf c b) 12 && isState (moveOf c m (6 * k) b % 64) (next (leftOf k) b)
 
--- "Prove the class rule once over the whole table"
+-- "the class rule is proved once over the whole table"
 pub record Right (c m : List ℕ) : Type 0 where
   pub computed : below (λ k. below (isRight c m k) 256) 9 ≡ true
 

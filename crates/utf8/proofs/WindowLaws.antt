@@ -1,4 +1,4 @@
--- The last three bytes say what is left of the row begun, and so judge the next byte (document 01, module 1; RFC 3629).
+-- The last three bytes say what is left of the row begun, and so judge the next byte (RULES.md, module 1; RFC 3629).
 use Prim.Native.Nat.{ℕ, suc, _+_, _-_, _<_, _≤_}
 use mathlib.Core.Path.{_≡_, refl, ap, _∙_}
 use mathlib.Core.List.{List, [], _∷_}

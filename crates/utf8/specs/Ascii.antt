@@ -1,4 +1,4 @@
--- Ascii: bytes below 128, each a character by itself (document 01, module 1).
+-- Ascii: bytes below 128, each a character by itself (RULES.md, module 1).
 use Prim.Native.Nat.{ℕ}
 use mathlib.Core.List.{List, [], _∷_}
 use mathlib.Core.Bool.{Bool, true, _&&_}

@@ -1,4 +1,4 @@
--- Moves: what a table of classes and one of moves say of a byte (document 02, request 8).
+-- Moves: what a table of classes and one of moves say of a byte (RULES.md, request 8).
 use Prim.Native.Nat.{ℕ, _/_, _^_}
 use mathlib.Core.List.{List}
 use lib.ListN.{getD}

@@ -1,4 +1,4 @@
--- Window: which bytes may not stand behind the three before them (document 01, module 1).
+-- Window: which bytes may not stand behind the three before them (RULES.md, module 1).
 use Prim.Native.Nat.{ℕ}
 use mathlib.Core.Bool.{Bool, not, _&&_, _||_, Bool·beq}
 use lib.Dec.{eqb, ltb}

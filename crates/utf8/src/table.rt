@@ -1,4 +1,4 @@
-// Whether bytes are UTF-8 (RFC 3629), by a class for each byte and a move for each class and state (document 02, request 8).
+// Whether bytes are UTF-8 (RFC 3629), by a class for each byte and a move for each class and state (RULES.md, request 8).
 ghost use Prim.Native.Nat.{_%_, _<_};
 ghost use mathlib.Core.Path.{_≡_};
 ghost use Rattle.bson.specs.Utf8.{utf8};

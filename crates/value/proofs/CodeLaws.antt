@@ -1,4 +1,4 @@
--- What the size of the code says of the value, and the value by it (document 01, "Values").
+-- What the size of the code says of the value, and the value by it (RULES.md, "Values").
 use Prim.Native.Nat.{ℕ, _+_, _-_, _≤_, _<_}
 use mathlib.Core.Path.{_≡_, refl}
 use mathlib.Core.List.{List}

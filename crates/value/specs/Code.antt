@@ -1,4 +1,4 @@
--- Code before a scope: what is asked of a value that has both, before either is handed out (document 01, "Values").
+-- Code before a scope: what is asked of a value that has both, before either is handed out (RULES.md, "Values").
 use Prim.Native.Nat.{ℕ, _+_, _-_}
 use mathlib.Core.List.{List}
 use lib.Dec.{leb, ltb}

@@ -1,4 +1,4 @@
--- What the cases of a value and of an answer say on paper, and what the inner functions answer (document 01, "Values").
+-- What the cases of a value and of an answer say on paper, and what the inner functions answer (RULES.md, "Values").
 use Prim.Native.Nat.{ℕ, _+_}
 use mathlib.Core.Bool.{cond}
 use lib.Dec.{eqb}

@@ -1,4 +1,4 @@
-// What the bytes of a framed value are tested for: text, the second length of old binary data, code and its scope (document 01,
+// What the bytes of a framed value are tested for: text, the second length of old binary data, code and its scope (RULES.md,
 // "Values"; src/raw/value.rs of the Rust).
 ghost use Prim.Native.Nat.{_-_};
 ghost use mathlib.Core.Path.{_≡_};

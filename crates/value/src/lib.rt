@@ -1,4 +1,4 @@
-// What a framed value holds (document 01, "Values"; src/raw/value.rs of the Rust).
+// What a framed value holds (RULES.md, "Values"; src/raw/value.rs of the Rust).
 mod inside;
 
 ghost use Prim.Native.Nat.{_+_, _<_, _≤_};

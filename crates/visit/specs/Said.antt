@@ -1,4 +1,4 @@
--- What levels, openings and the cases of a visit say on paper (document 01, "The whole check").
+-- What levels, openings and the cases of a visit say on paper (RULES.md, "The whole check").
 use Prim.Native.Nat.{ℕ}
 use Rattle.bson.specs.Answer.{Answer, gives, refuses}
 use Rattle.bson.specs.Level as paper

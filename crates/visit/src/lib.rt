@@ -1,4 +1,4 @@
-// One value of the whole check: its key, its reading, its depth and what it opens (document 01, "The whole check").
+// One value of the whole check: its key, its reading, its depth and what it opens (RULES.md, "The whole check").
 ghost use Prim.Native.Nat.{ℕ, _+_};
 ghost use mathlib.Core.Path.{_≡_};
 ghost use Rattle.bson.specs.Bytes.{bytes};

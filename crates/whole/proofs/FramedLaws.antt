@@ -1,5 +1,5 @@
 -- A framed value of a fixed size, but for a boolean, is read whatever its bytes are, and opens nothing; a framed document or array opens
--- itself (document 01, "Values").
+-- itself (RULES.md, "Values").
 use Prim.Native.Nat.{ℕ, _+_, _≤_}
 use mathlib.Core.Path.{_≡_, refl, sym, ap, _∙_}
 use mathlib.Core.List.{List}

@@ -1,4 +1,4 @@
--- The walk as the code goes along it: what each answer of a step and of an opened value means for the whole walk (document 01, "The whole
+-- The walk as the code goes along it: what each answer of a step and of an opened value means for the whole walk (RULES.md, "The whole
 -- check").
 use Prim.Native.Nat.{ℕ, suc, _+_, _≤_, _<_}
 use mathlib.Core.Path.{_≡_, refl, sym, ap, subst, _∙_}

@@ -1,4 +1,4 @@
--- What framing has told of a value, where the plain check needs not read it (document 01, "The whole check").
+-- What framing has told of a value, where the plain check needs not read it (RULES.md, "The whole check").
 use Prim.Native.Nat.{ℕ, _≤_}
 use mathlib.Core.Path.{_≡_}
 use mathlib.Core.Bool.{Bool, false, cond}

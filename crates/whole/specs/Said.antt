@@ -1,4 +1,4 @@
--- What the cases of a verdict say on paper (document 01, "The whole check").
+-- What the cases of a verdict say on paper (RULES.md, "The whole check").
 use Prim.Native.Nat.{ℕ}
 use Rattle.bson.specs.Answer.{Answer, gives, refuses}
 use Rattle.whole.specs.declared.Verdict.{Verdict}

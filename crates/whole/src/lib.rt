@@ -1,4 +1,4 @@
-// The whole check, plain and strict (document 01, module 6 and "The whole check").
+// The whole check, plain and strict (RULES.md, module 6 and "The whole check").
 ghost use Prim.Native.Nat.{ℕ, _+_, _<_, _^_};
 ghost use mathlib.Core.Path.{_≡_};
 ghost use mathlib.Core.Bool.{true, false};

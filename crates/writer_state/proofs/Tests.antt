@@ -1,4 +1,4 @@
--- Which states can be, and the kind of the innermost, as the code tests it (document 01, "Writer and joining").
+-- Which states can be, and the kind of the innermost, as the code tests it (RULES.md, "Writer and joining").
 use Prim.Native.Nat.{ℕ, suc, _+_, _-_, _≤_, _<_}
 use mathlib.Core.Path.{_≡_, _∙_}
 use mathlib.Core.List.{List}

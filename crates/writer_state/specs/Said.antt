@@ -1,4 +1,4 @@
--- What the cases of a kind and of an answer say on paper (document 01, "Writer and joining").
+-- What the cases of a kind and of an answer say on paper (RULES.md, "Writer and joining").
 use Rattle.bson.specs.Answer.{Answer, gives, refuses}
 use Rattle.bson.specs.Writer as paper
 use Rattle.writer_state.specs.declared.Kind.{Kind}

@@ -1,4 +1,4 @@
-// The writer's state, lent as words: which states can be (18), and what they say (document 01, "Writer and joining").
+// The writer's state, lent as words: which states can be (18), and what they say (RULES.md, "Writer and joining").
 ghost use mathlib.Core.Path.{_≡_};
 ghost use Prim.Native.Nat.{_≤_, _<_, _^_};
 ghost use Rattle.bson.specs.Writer as paper;

@@ -82,7 +82,7 @@ impl Numbers {
         Self::new(1..=12, limit)
     }
 
-    /// Document 01's table, its third column; under a limit 22 is in the place of 5.
+    /// RULES.md, "Numbers returned", the Rust's kinds; under a limit 22 is in the place of 5.
     fn kind(&self, number: u64) -> Kind {
         match number {
             NO_ZERO if self.limited => STRAY,

@@ -1,4 +1,4 @@
-//! Lookup and typed lookup, by document 01's "Values", against `get` and the twelve typed getters, or `get` under a limit.
+//! Lookup and typed lookup, by RULES.md, "Values", against `get` and the twelve typed getters, or `get` under a limit.
 
 use bson::{RawBsonRef as Value, RawDocument};
 use oracle::lookup::{call, find};

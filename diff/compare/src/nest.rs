@@ -5,7 +5,7 @@ use crate::draft::Draft;
 use crate::rng::Rng;
 use crate::texts::{Text, Texts};
 
-/// The depth that document 01 allows; inside a scope it is two more.
+/// The depth that RULES.md allows; inside a scope it is two more.
 const MOST: usize = 200;
 
 /// A nest whose innermost value lies around the deepest depth.

@@ -1,4 +1,4 @@
-//! A writer's session through the Rust's DocWriter and through the library's writer: document 01's "Writer and joining".
+//! A writer's session through the Rust's DocWriter and through the library's writer: RULES.md, "Writer and joining".
 
 use bson::document::writer::{append_cstr, append_string, Writer};
 use bson::raw::CStr;

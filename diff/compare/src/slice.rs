@@ -1,4 +1,4 @@
-//! One slice with all its questions: document 01's "Admission and one step", "Values" and "The whole check".
+//! One slice with all its questions: RULES.md, "Admission and one step", "Values" and "The whole check".
 
 use bson::RawDocument;
 use oracle::check::{walk, Walk};

@@ -1,4 +1,4 @@
-//! Documents as trees: the twenty-one types of document 01's tag table.
+//! Documents as trees: the twenty-one types of RULES.md's tag table.
 
 #[derive(Clone, Debug)]
 pub struct Element {

@@ -1,5 +1,5 @@
 //! What the original Rust answers about a document: a case line in, a line of the list out.
-//! The numbers of refusals are missing: only document 01 gives them.
+//! The numbers of refusals are missing: only docs/RULES.md gives them.
 
 pub mod check;
 pub mod lookup;

@@ -1,4 +1,4 @@
--- The count of a passed slice is the number of its reachable values (document 01, "The whole check"; demand 3).
+-- The count of a passed slice is the number of its reachable values (RULES.md, "The whole check"; demand 3).
 use Prim.Native.Nat.{ℕ, zero, suc, _+_, _≤_, _<_}
 use mathlib.Core.Path.{_≡_, refl, sym, ap, subst, _∙_}
 use mathlib.Core.List.{List, [], _∷_, _++_, List·Memᴰ, List·Memᴰ·head, List·Memᴰ·tail, List·Memᴰ·not-nil, List·Memᴰ·cases-cons}

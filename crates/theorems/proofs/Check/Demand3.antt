@@ -1,4 +1,4 @@
--- Demand 3 holds (document 01, "The whole check").
+-- Demand 3 holds (RULES.md, "The whole check").
 use mathlib.Core.List.{List}
 use mathlib.Core.Bool.{false}
 use mathlib.Core.Path.{_≡_}

@@ -1,4 +1,4 @@
--- Every yielded byte is accounted for (document 02, request 13).
+-- Every yielded byte is accounted for (RULES.md, request 13).
 use mathlib.Core.Path.{refl}
 use native.Mathlib.Omega.{arith}
 use Rattle.bson.specs.Step.{iterateUnder, elements}

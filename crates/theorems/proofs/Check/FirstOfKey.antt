@@ -1,5 +1,5 @@
 -- The elements that iterating a document yields: an offset lies in one at most, so only one comes first with a key; where the iteration
--- comes to the terminator, none reaches past it (document 01, "Admission and one step", "Values"; demand 3).
+-- comes to the terminator, none reaches past it (RULES.md, "Admission and one step", "Values"; demand 3).
 use Prim.Native.Nat.{ℕ, zero, suc, _≤_, _<_}
 use mathlib.Core.Path.{_≡_, sym, ap, subst, _∙_}
 use mathlib.Core.List.{List}

@@ -1,5 +1,5 @@
 -- The elements that steps yield lie one behind the other, their lengths add up, their bytes are the slice's from offset 4 on, and 4 is met
--- exactly where they reach past the terminator (document 02, request 13).
+-- exactly where they reach past the terminator (RULES.md, request 13).
 use Prim.Native.Nat.{ℕ, zero, suc, _+_, _≤_, _<_}
 use mathlib.Core.Path.{_≡_, refl, sym, subst, _∙_}
 use mathlib.Core.List.{List}

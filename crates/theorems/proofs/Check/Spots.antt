@@ -1,4 +1,4 @@
--- What the walk of the whole check says at a spot that it accepts from (document 01, "The whole check").
+-- What the walk of the whole check says at a spot that it accepts from (RULES.md, "The whole check").
 use Prim.Native.Nat.{ℕ, _+_, _-_, _<_}
 use mathlib.Core.Path.{_≡_, refl, sym, ap, subst, _∙_}
 use mathlib.Core.List.{List}

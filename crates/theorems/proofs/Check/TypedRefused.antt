@@ -1,4 +1,4 @@
--- The typed getters of numbers are refused only as the typed lookup is (document 01, "Values"; demand 3).
+-- The typed getters of numbers are refused only as the typed lookup is (RULES.md, "Values"; demand 3).
 use Prim.Native.Nat.{ℕ}
 use mathlib.Core.Path.{_≡_, refl, sym, _∙_}
 use mathlib.Core.List.{List}

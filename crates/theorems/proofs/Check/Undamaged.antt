@@ -1,4 +1,4 @@
--- What steps, readings and lookups answer in a passed slice, at every level (document 01, "The whole check"; demand 3).
+-- What steps, readings and lookups answer in a passed slice, at every level (RULES.md, "The whole check"; demand 3).
 use Prim.Native.Nat.{ℕ, zero, suc, _-_, _<_}
 use mathlib.Core.Path.{_≡_, refl, sym, ap, subst, _∙_}
 use mathlib.Core.List.{List}

@@ -1,5 +1,5 @@
 -- Where the whole check is refused: at an element that steps from offset 4 yield, in it or where it ends, or where these steps are refused
--- (document 02, request 13; document 01, "The whole check").
+-- (RULES.md, request 13; "The whole check").
 use Prim.Native.Nat.{ℕ, zero, suc, _+_, _≤_, _<_}
 use mathlib.Core.Path.{_≡_, refl, sym, subst, _∙_}
 use mathlib.Core.List.{List}

@@ -1,4 +1,4 @@
--- Which slices the whole check passes, plain and strict (document 01, "The whole check"; demand 3).
+-- Which slices the whole check passes, plain and strict (RULES.md, "The whole check"; demand 3).
 use Prim.Native.Nat.{ℕ, zero, suc, _+_, _<_}
 use mathlib.Core.Path.{_≡_, refl, sym, ap, _∙_}
 use mathlib.Core.List.{List}

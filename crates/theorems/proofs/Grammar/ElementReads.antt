@@ -1,5 +1,5 @@
--- The bytes of an element, wherever they lie in an admitted slice, are what the step there yields (BSON 1.1, `element`; document
--- 01, "Admission and one step").
+-- The bytes of an element, wherever they lie in an admitted slice, are what the step there yields (BSON 1.1, `element`; RULES.md,
+-- "Admission and one step").
 use Prim.Native.Nat.{ℕ, _+_, _-_, _≤_}
 use mathlib.Core.Path.{_≡_, refl, sym, ap, _∙_}
 use mathlib.Core.List.{List, [], _∷_, _++_, append-assoc}

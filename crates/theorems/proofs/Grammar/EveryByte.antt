@@ -1,4 +1,4 @@
--- Every byte of a document whose iteration comes to its terminator has one role (BSON 1.1, `document` and `element`; document 01,
+-- Every byte of a document whose iteration comes to its terminator has one role (BSON 1.1, `document` and `element`; RULES.md,
 -- "Admission and one step").
 use Prim.Native.Nat.{ℕ, _+_, _≤_, _<_}
 use mathlib.Core.Path.{_≡_, refl, ap, _∙_}

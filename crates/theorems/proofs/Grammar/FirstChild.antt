@@ -1,4 +1,4 @@
--- A lookup in a document that means a tree answers the first child of the key (document 01, "Values").
+-- A lookup in a document that means a tree answers the first child of the key (RULES.md, "Values").
 use Prim.Native.Nat.{ℕ}
 use mathlib.Core.Path.{_≡_, refl, sym, ap, _∙_}
 use mathlib.Core.List.{List}

@@ -1,5 +1,5 @@
 -- A value that is framed and read is the bytes of what it holds: an item, or a nest with its document (BSON 1.1,
--- "Specification"; document 01, "Values").
+-- "Specification"; RULES.md, "Values").
 use Prim.Native.Nat.{ℕ, _+_, _-_, _≤_}
 use mathlib.Core.Path.{_≡_, refl, sym, ap, subst, _∙_}
 use mathlib.Core.List.{List, [], _∷_, _++_}

@@ -1,5 +1,5 @@
 -- The bytes of a single value, wherever they lie in a slice, are framed and read as that value (BSON 1.1,
--- "Specification"; document 01, "Values").
+-- "Specification"; RULES.md, "Values").
 use Prim.Native.Nat.{ℕ, _+_, _-_, _≤_, _<_}
 use mathlib.Core.Path.{_≡_, refl, sym, ap, _∙_}
 use mathlib.Core.List.{List, [], _∷_, _++_, append-assoc, append-nil}

@@ -1,6 +1,6 @@
 -- The bytes of a document, an array or a code with scope, wherever they lie in a slice, are framed and read as
 -- that (BSON 1.1, `document` and
--- `code_w_s`; document 01, "Values").
+-- `code_w_s`; RULES.md, "Values").
 use Prim.Native.Nat.{ℕ, _+_, _-_, _≤_, _<_}
 use mathlib.Core.Path.{_≡_, refl, sym, ap, _∙_}
 use mathlib.Core.List.{List, [], _++_, append-assoc, append-nil}

@@ -1,4 +1,4 @@
--- One frame, one meaning holds (BSON 1.1, "Specification"; document 01, "The whole check").
+-- One frame, one meaning holds (BSON 1.1, "Specification"; RULES.md, "The whole check").
 use Prim.Native.Nat.{ℕ}
 use mathlib.Core.Path.{_≡_, refl, sym, _∙_}
 use mathlib.Core.List.{List}
@@ -23,7 +23,7 @@ use Rattle.theorems.proofs.Grammar.PassedTree.{accepted-tree, passed-tr
 use Rattle.theorems.proofs.Grammar.FirstChild.{lookup-child}
 use Rattle.bson.specs.Cstring.{unlimited}
 
--- each check accepts exactly the bytes of the good trees whose keys are as it asks
+-- each check accepts exactly the bytes of the good trees, none deeper than 200, whose keys are as it asks
 module _ (strict : Bool) (s : List ℕ) (n : ℕ) where
   passed-frame : AreBytes s → check strict s ≡ gives n → (t : Elements) × Frame s n t × KeysAsked strict false 0 t
   passed-frame are x =

@@ -1,5 +1,5 @@
 -- What a check accepts means a tree, with as many values, none deeper than 200, and the keys of arrays as the check asks: the way back from
--- TreePasses (document 01, "The whole check").
+-- TreePasses (RULES.md, "The whole check").
 use Prim.Native.Nat.{ℕ, zero, suc, _+_, _<_}
 use mathlib.Core.Path.{_≡_, refl, sym, ap, subst, _∙_}
 use mathlib.Core.List.{List}

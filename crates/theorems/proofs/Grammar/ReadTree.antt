@@ -1,5 +1,5 @@
 -- A document that means a tree is the bytes of this tree, which is a good one: the way back from TreeReads (BSON 1.1, "Specification";
--- document 01, "Admission and one step" and "Values").
+-- RULES.md, "Admission and one step" and "Values").
 use Prim.Native.Nat.{ℕ, suc, _+_, _≤_}
 use mathlib.Core.Path.{_≡_, sym, ap, subst, _∙_}
 use mathlib.Core.List.{List, [], _∷_, _++_, append-assoc}

@@ -1,5 +1,5 @@
 -- A document that means a tree none of whose values lies deeper than 200 passes the plain whole check, with the number of the tree's
--- values, and the strict one where the keys of arrays are good (document 01, "The whole check").
+-- values, and the strict one where the keys of arrays are good (RULES.md, "The whole check").
 use Prim.Native.Nat.{ℕ, suc, _+_, _≤_}
 use mathlib.Core.Path.{_≡_, refl, sym, ap, _∙_}
 use mathlib.Core.List.{List}

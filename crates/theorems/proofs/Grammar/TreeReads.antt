@@ -1,4 +1,4 @@
--- The bytes of a good tree mean that tree: iterating, reading and opening them yields just its elements (document 01, "Writer and joining":
+-- The bytes of a good tree mean that tree: iterating, reading and opening them yields just its elements (RULES.md, "Writer and joining":
 -- what the writer closes "reads back").
 use Prim.Native.Nat.{ℕ, _+_, _-_, _≤_, _<_}
 use mathlib.Core.Path.{_≡_, sym, ap, subst, _∙_}

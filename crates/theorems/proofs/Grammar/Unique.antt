@@ -1,5 +1,5 @@
 -- A document means one tree at most, so that what is read back is exactly one list of elements, and good trees with the same bytes are the
--- same (demand 2; BSON 1.1, "Specification"; document 01, "Writer and joining").
+-- same (demand 2; BSON 1.1, "Specification"; RULES.md, "Writer and joining").
 use Prim.Native.Nat.{ℕ}
 use mathlib.Core.Path.{_≡_, refl, sym, ap, subst, _∙_}
 use mathlib.Core.List.{List}

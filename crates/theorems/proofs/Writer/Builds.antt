@@ -1,4 +1,4 @@
--- Every writable tree is built, by calls that are all answered 0 (demand 2; document 01, "Writer and joining").
+-- Every writable tree is built, by calls that are all answered 0 (demand 2; RULES.md, "Writer and joining").
 use Prim.Native.Nat.{ℕ, suc, _+_, _≤_}
 use mathlib.Core.Path.{_≡_, refl, sym, ap, subst, _∙_}
 use mathlib.Core.List.{List, [], _∷_, _++_}

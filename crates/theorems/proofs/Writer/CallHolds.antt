@@ -1,5 +1,5 @@
 -- Each accepted call of the writer keeps what its state and its buffer hold, and the bytes of a closed document are its tree's (demand 2;
--- document 01, "Writer and joining").
+-- RULES.md, "Writer and joining").
 use Prim.Native.Nat.{ℕ, suc, _+_, _-_, _≤_, _<_}
 use mathlib.Core.Path.{_≡_, refl, sym, ap, subst, _∙_}
 use mathlib.Core.List.{List, [], _∷_, _++_, append-assoc, append-nil}

@@ -1,4 +1,4 @@
--- While a desk holds open documents, a call that is in order and has room is answered 0 (document 01, "Writer and joining").
+-- While a desk holds open documents, a call that is in order and has room is answered 0 (RULES.md, "Writer and joining").
 use Prim.Native.Nat.{ℕ, suc, _+_, _≤_}
 use mathlib.Core.Path.{_≡_, refl, ap, _∙_}
 use mathlib.Core.List.{List, [], _∷_}

@@ -1,5 +1,5 @@
 -- What the state and the buffer of a writer hold while a tree is being built: its open documents' bytes, their starts and their kinds
--- (document 01, "Writer and joining").
+-- (RULES.md, "Writer and joining").
 use Prim.Native.Nat.{ℕ, _+_, _≤_}
 use mathlib.Core.Path.{_≡_, sym, ap, _∙_}
 use mathlib.Core.List.{List, [], _∷_, _++_}

@@ -1,5 +1,5 @@
 -- The bytes of open documents, and how many they are, when an element is put behind the innermost's, when one is opened in it and when it
--- is closed (document 01, "Writer and joining").
+-- is closed (RULES.md, "Writer and joining").
 use Prim.Native.Nat.{ℕ, _+_}
 use mathlib.Core.Path.{_≡_, refl, sym, ap, _∙_}
 use mathlib.Core.List.{List, [], _∷_, _++_, append-assoc, append-nil}

@@ -1,4 +1,4 @@
--- A session of the writer makes a good tree, and what it closes reads back as that tree (demand 2; document 01, "Writer and joining").
+-- A session of the writer makes a good tree, and what it closes reads back as that tree (demand 2; RULES.md, "Writer and joining").
 use Prim.Native.Nat.{ℕ, _+_, _≤_, _<_}
 use mathlib.Core.Path.{_≡_, refl, ap, subst, _∙_}
 use mathlib.Core.List.{List, [], _∷_}

@@ -1,5 +1,5 @@
 -- `whole::walk_document` and `whole::open_value`, which call each other, meet their contracts: the depth left plus the bytes left fall
--- (document 01, "Where each language form belongs").
+-- (RULES.md, "Where each language form belongs").
 use mathlib.Core.Path.{_≡_, sym, ap, _∙_}
 use mathlib.Core.Bool.{false}
 use native.Mathlib.Omega.{arith}

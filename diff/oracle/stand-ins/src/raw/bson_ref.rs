@@ -1,4 +1,4 @@
-// Stand-in for borrowed values: the strict readings as document 01 states them, and what the typed getters ask.
+// Stand-in for borrowed values: the strict readings as docs/RULES.md states them, and what the typed getters ask.
 use super::{i32_from_slice, read_cstring, read_lenencode, CStr, Error, RawArray, RawDocument};
 use super::{Result, MIN_CODE_WITH_SCOPE_SIZE};
 use crate::{
