@@ -1,5 +1,6 @@
 #!/usr/bin/env python3
-"""Makes the check program's inputs and, by document 01's rules (tools/rules), what it must print of each: samples/NAME.bson and samples/NAME.txt.
+"""Makes the check program's inputs and, by the rules (tools/rules), what it must print of each: samples/NAME.bson and samples/NAME.txt. And what the
+check program and the README's are run on when they are proved: stdin and stdout of their crates.
 
 usage: tools/make/samples.py                  writes the files
        tools/make/samples.py --check          the files are what the rules say
@@ -12,7 +13,8 @@ ROOT = Path(__file__).resolve().parents[2]
 sys.path.insert(0, str(ROOT / "tools"))
 from rules import rules
 from rules.beacon import beacon
-from rules.documents import BATTERY, NULL, SAMPLED, TRY, doc, element, le, nested, text
+from rules.documents import BATTERY, INT32, NULL, SAMPLED, TRY, doc, element, le, nested, text
+from rules.joining import join
 from rules.rules import Refused
 
 LIMIT = 65_535
@@ -40,7 +42,7 @@ def report(s):
 
 
 def to_try(row):
-    """Row P of document 01's "Bytes to try"."""
+    """Row P of RULES.md, "Bytes to try"."""
     return bytes.fromhex(TRY.split("\n")[row - 1].split(" = ")[0])
 
 
@@ -74,6 +76,19 @@ def many():
     return {"many": doc(*[element(NULL, "")] * ((LIMIT - 5) // 2))}
 
 
+def example(frame):
+    """What the README's program prints of a frame with a battery in it."""
+    _, (_, millivolts) = rules.get_with(frame, b"battery", INT32)
+    (*_, length), _ = join(frame, doc(element(INT32, "rssi", le(-97))), bytes(65_600))
+    return f"accepted, values: {rules.check(frame)}\nbattery low: {int(millivolts < 6600)}\njoined, bytes: {length}\n"
+
+
+def programs():
+    for crate, data, printed in ("bson_check", to_try(12), report), ("example", beacon(), example):
+        yield ROOT / "crates" / crate / "stdin", data
+        yield ROOT / "crates" / crate / "stdout", printed(data).encode()
+
+
 def files(folder, inputs):
     for name, data in inputs.items():
         yield folder / f"{name}.bson", data
@@ -85,11 +100,11 @@ def main():
         for path, data in files(Path(sys.argv[2]), many()):
             path.write_bytes(data)
         return
-    made = dict(files(ROOT / "samples", samples()))
+    made = dict([*files(ROOT / "samples", samples()), *programs()])
     if "--check" not in sys.argv[1:]:
         for path, data in made.items():
             path.write_bytes(data)
-    differ = [path.name for path, data in made.items() if not path.exists() or path.read_bytes() != data]
+    differ = [path.relative_to(ROOT).as_posix() for path, data in made.items() if not path.exists() or path.read_bytes() != data]
     print(f"{len(samples())} samples" + "".join(f"; {name} differs" for name in differ))
     sys.exit(1 if differ else 0)
 
