@@ -18,7 +18,7 @@ ROOT = Path(__file__).resolve().parents[2]
 # names that are not the repository's: of the language, its tools and its library, of C, and of the Rust; and a line that a program prints
 OUTSIDE = {"&[u8]", "ensures", "requires", "rt ci", "leb", "getD", "memset", "snprintf", "read", "write", "TooLongCStr", "max_cstr_parse_len", "unread"}
 KIT = re.compile(r"rattle-kit-\S+ logic [0-9a-f]+")
-FOLDERS = "bench|c|crates|diff|docs|include|samples|tools"
+FOLDERS = r"\.ci|bench|c|crates|diff|docs|include|samples|tools"
 ITEM = re.compile(rf"`([^`]+)`|\b((?:[\w+]+/)+[\w+]+\.\w+|[A-Z]\w+\.antt|(?:{FOLDERS})/[\w/]+\w)")
 # what may stand between a name and the path that it is said of
 JOINT = re.compile(r"[\s,()]*(?:and|of|each from)?[\s,()]*")
