@@ -4,7 +4,7 @@
 A file crates/CRATE/must-fail/FILE.edit with lines `fn:` holds edits of different functions, tried together: a line `# NAME`, then `fn: FUNCTION`
 with the function's folder in proofs/, then what `rt` replaces. Each such function must have an error of its own, and nothing beside
 them may have one. A file without such a line is one edit, of a definition or a promise, by the name of the file: a proof must have an error of its
-own, and no definition. docs/CLAIMS.md names every edit, and README.md says how many there are.
+own, and no definition. docs/CLAIMS.md names every edit.
 
 usage: tools/try/edits.py     behind `rt ci`, which leaves the logs in target/must-fail
 """
@@ -61,19 +61,16 @@ def try_complaints(file):
             assert complaints(others, file.log), f"{file.name}: {name}"
 
 
-def claimed(names):
-    """What docs/CLAIMS.md and README.md say otherwise of these edits."""
-    claims, readme = (ROOT / "docs/CLAIMS.md").read_text(), (ROOT / "README.md").read_text()
-    unnamed = [f"docs/CLAIMS.md does not name {name}" for name in names if f"`{name}`" not in claims]
-    number = f"{len(names)} wrong edits are refused"
-    return unnamed + ([] if number in readme else [f"README.md does not say that {number}"])
+def unnamed(names):
+    claims = (ROOT / "docs/CLAIMS.md").read_text()
+    return [f"docs/CLAIMS.md does not name {name}" for name in names if f"`{name}`" not in claims]
 
 
 def main():
     files = [File(path) for path in sorted(ROOT.glob("crates/*/must-fail/*.edit"))]
     wrong = [f"{file.name}: {what}" for file in files for what in complaints(file.functions, file.log)]
     names = [name for file in files for name in file.functions]
-    wrong += claimed(names)
+    wrong += unnamed(names)
     if wrong:
         sys.exit("\n".join(wrong))
     for file in files:
