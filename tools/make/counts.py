@@ -122,8 +122,8 @@ def row(*cells):
 def proved():
     """What is proved, for the README."""
     words = (
-        f"{len(crates())} crates with {len(functions())} functions, {len(public())} of them public in libraries and {len(exported())} of these exported to C; "
-        f"{len(edits())} wrong edits are refused; {documents():,} documents with their answers, and {questions():,} questions, are replayed; "
+        f"{len(crates())} crates with {len(functions())} functions, {len(public())} of them public in libraries and {len(exported())} of these "
+        f"exported to C; {len(edits())} wrong edits are refused; {documents():,} documents with their answers, and {questions():,} questions, are replayed; "
         f"{len(variants())} wrong variants of the library are at hand, each to be caught."
     )
     return textwrap.fill(words, 100)
@@ -167,7 +167,8 @@ def signed():
     ]
     table = [row("What", "Where", "Files", "Lines"), row("---", "---", "---:", "---:")]
     table += [row(what, where, len(paths), said(paths)) for what, where, paths in rows]
-    table.append(row("the promises of the public functions", "the `ensures` clauses in `crates/*/src`", len({f[0] for f in public()}), len(promises())))
+    sources = {path for path, *_ in public()}
+    table.append(row("the promises of the public functions", "the `ensures` clauses in `crates/*/src`", len(sources), len(promises())))
     table.append(row("what C is told", "`include/fringewell.h`", 1, lines([ROOT / "include/fringewell.h"])))
     return "\n".join(table)
 
@@ -190,17 +191,18 @@ def main():
     check, *logs = sys.argv[1:] or [""]
     if check not in ("", "--check"):
         sys.exit(__doc__)
-    wrong = [paper for paper in PAPERS if written(paper) != text(ROOT / paper)]
     if not check:
-        for paper in wrong:
+        for paper in PAPERS:
             (ROOT / paper).write_text(written(paper))
+        return
     shown = [m[2] for paper in PAPERS for m in BLOCK.finditer(text(ROOT / paper))]
     ran = "".join(Path(log).read_text() for log in logs)
-    missed = [f"block {name}" for name in BLOCKS if shown.count(name) != 1]
-    missed += [phrase for phrase in phrases() if not re.search(rf"(?<!\d){re.escape(phrase)}", ran)] if logs else []
-    print(f"{len(BLOCKS)} blocks of counts, {len(phrases()) if logs else 0} phrases" + "".join(f"; {what!r} differs" for what in wrong + missed))
-    if check and wrong + missed:
-        sys.exit(1)
+    asked = phrases() if logs else []
+    wrong = [paper for paper in PAPERS if written(paper) != text(ROOT / paper)]
+    wrong += [f"block {name}" for name in BLOCKS if shown.count(name) != 1]
+    wrong += [phrase for phrase in asked if not re.search(rf"(?<!\d){re.escape(phrase)}", ran)]
+    print(f"{len(BLOCKS)} blocks of counts, {len(asked)} phrases" + "".join(f"; {what!r} differs" for what in wrong))
+    sys.exit(1 if wrong else 0)
 
 
 if __name__ == "__main__":

@@ -80,14 +80,21 @@ def wrong_citations():
     return [f"{path} cites {name}, which RULES.md has not" for path, name in citations() if not is_rule(name)]
 
 
-def wrong_quotes():
-    rules = one_line(text("docs/RULES.md")).lower()
+def quotations():
+    """What definitions and statements quote, and the demands at the head of the claims."""
     for path in files():
         if re.match(r"crates/\w+/specs/", path) and not QUOTES_BSON.search(path):
             for comment in comments(path):
-                for quote in re.findall(r'"([^"]+)"', re.sub(r'BSON 1\.1, "[^"]*"', "", comment)):
-                    if any(part.strip(" ,;").lower() not in rules for part in quote.split("[..]")):
-                        yield f"{path} quotes {quote!r}, which RULES.md does not say"
+                yield from ((path, quote) for quote in re.findall(r'"([^"]+)"', re.sub(r'BSON 1\.1, "[^"]*"', "", comment)))
+    for block in re.findall(r"(?:^> .*\n)+", text("docs/CLAIMS.md"), re.M):
+        yield "docs/CLAIMS.md", re.search(r'"(.*)"', one_line(block.replace("\n> ", " ")))[1]
+
+
+def wrong_quotes():
+    rules = one_line(text("docs/RULES.md")).lower()
+    for path, quote in quotations():
+        if any(part.strip(" ,;").lower() not in rules for part in quote.split("[..]")):
+            yield f"{path} quotes {quote!r}, which RULES.md does not say"
 
 
 def wrong_numbers():
