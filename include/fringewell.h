@@ -10,8 +10,8 @@
  *   the bytes of an ObjectId or a decimal128, must be valid.
  * Aliasing: `out` and the writer overlap nothing else that is lent to the call. Slices that are only read may overlap each other.
  * Threads: there is no global state. Calls are reentrant, and run at the same time on whatever no other call writes to.
- * Stack: no call has taken more than FRINGEWELL_STACK_BYTES. This is measured, not proved: c/test_stack.c runs the deepest checks on a
- *   thread whose stack was filled with a pattern, and looks how far down the pattern is gone.
+ * Stack: no call that was measured has taken more than FRINGEWELL_STACK_BYTES. That is not proved: c/test_stack.c runs the deepest checks
+ *   on a thread whose stack was filled with a pattern, and looks how far down the pattern is gone.
  */
 #ifndef FRINGEWELL_H
 #define FRINGEWELL_H
