@@ -15,6 +15,9 @@ from functools import cache
 from pathlib import Path
 
 ROOT = Path(__file__).resolve().parents[2]
+sys.path.insert(0, str(ROOT / "tools/try"))
+from edits import named
+
 PAPERS = ["README.md", "docs/NUMBERS.md", "docs/TRUST.md"]
 BLOCK = re.compile(r"(<!-- (\w+) -->\n).*?(<!-- end -->)", re.S)
 FUNCTION = re.compile(r"^[ ]*(pub )?(extern \"C\" )?fn (\w+)", re.M)
@@ -79,7 +82,7 @@ def promises():
 
 def edits():
     """The wrong edits: of a file of several the names in it, else the file's."""
-    return [name for path in found("*/must-fail/*.edit") for name in re.findall(r"^# (\w+)\nfn: ", text(path), re.M) or [path.stem]]
+    return [name for path in found("*/must-fail/*.edit") for name in named(text(path)) or [path.stem]]
 
 
 def replayed(kind):

@@ -14,6 +14,8 @@ from collections import Counter, namedtuple
 from functools import cache
 from pathlib import Path
 
+from edits import named
+
 ROOT = Path(__file__).resolve().parents[2]
 # names that are not the repository's: of the language, its tools and its library, of C, and of the Rust; and a line that a program prints
 OUTSIDE = {"&[u8]", "ensures", "requires", "rt ci", "leb", "getD", "memset", "snprintf", "read", "write", "TooLongCStr", "max_cstr_parse_len", "unread"}
@@ -67,7 +69,7 @@ def code_of(crate, module=""):
 def edits(crate):
     found = set()
     for path in ROOT.glob(f"crates/{crate}/must-fail/*.edit"):
-        found |= set(re.findall(r"^# (\w+)\nfn: ", path.read_text(), re.M)) or {path.stem}
+        found |= {*named(path.read_text())} or {path.stem}
     return found
 
 

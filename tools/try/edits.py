@@ -18,6 +18,11 @@ ERROR = re.compile(r"^(?:note: )?\S*?/(proofs|specs)/([^:\s]+?)(?:/[^/:\s]+)?:\d
 NO_FACT = ("was not admitted (", "is not in scope", "that can be named from here", "has no field")
 
 
+def named(text):
+    """Of a file of several edits, by the name of each the function that it is of."""
+    return dict(re.findall(r"^# (\w+)\nfn: (\S+)$", text, re.M))
+
+
 class File:
     """A file of edits: by name the function that each is of, None where the file is one edit of something else; and its log."""
 
@@ -25,7 +30,7 @@ class File:
         crate = path.parent.parent.name
         self.name = f"{crate}/{path.stem}"
         text = path.read_text()
-        self.functions = dict(re.findall(r"^# (\w+)\nfn: (\S+)$", text, re.M)) or {path.stem: None}
+        self.functions = named(text) or {path.stem: None}
         self.log = (ROOT / "target/must-fail" / crate / path.stem / ".log").read_text()
         if text.count("fn: ") != len({*self.functions.values()} - {None}):
             sys.exit(f"{self.name}: an edit without a name of its own, or two edits of one function")

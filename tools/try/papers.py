@@ -13,10 +13,13 @@ import sys
 from functools import cache
 from pathlib import Path
 
+from claims import declared
+
 ROOT = Path(__file__).resolve().parents[2]
 WIDTH = 100
 NAMED = r'"[^"]+"|requests? \d+(?: and \d+)*|modules? \d+(?: and \d+)*'
 CITED = re.compile(rf"RULES\.md\)?, ((?:(?:, |; | and |, and )?(?:{NAMED}))+)")
+ELSEWHERE = re.compile(r"\bdocument[ ]0[12]\b", re.I)
 # folders of what is built, and files that are no text to read
 MADE = {".git", "target", "build", "__pycache__", "samples", "stdin", "stdout", "Cargo.lock"}
 # the grammar quotes BSON 1.1 rule by rule
@@ -77,7 +80,9 @@ def citations():
 
 
 def wrong_citations():
-    return [f"{path} cites {name}, which RULES.md has not" for path, name in citations() if not is_rule(name)]
+    """Those of a rule that is not there, and those of a paper that no reader has."""
+    yield from (f"{path} cites {name}, which RULES.md has not" for path, name in citations() if not is_rule(name))
+    yield from (f"{path} cites a numbered document" for path in files() if ELSEWHERE.search(joined(text(path))))
 
 
 def quotations():
@@ -148,10 +153,8 @@ def wrong_architecture():
     groups = re.findall(r"^# ---- (.*)", text("crates.txt"), re.M)
     yield from (f"docs/ARCHITECTURE.md has no row for {group!r}" for group in groups if not group.startswith(tuple(rows)))
     for _, theorems, where in (line.split(" | ") for line in page.split("\n## Theorems by claim\n")[1].split("\n") if ".antt" in line):
-        declared = "".join(text(f"crates/{path}") for path in re.findall(r"[\w/]+\.antt", where))
-        for name in re.findall(r"`([^`]+)`", theorems):
-            if not re.search(rf"^ *(?:pub )?{re.escape(name)} :", declared, re.M):
-                yield f"docs/ARCHITECTURE.md: {name} is not in {where.strip(' |')}"
+        there = {name for path in re.findall(r"[\w/]+\.antt", where) for name in declared(f"crates/{path}")}
+        yield from (f"docs/ARCHITECTURE.md: {name} is not in {where.strip(' |')}" for name in re.findall(r"`([^`]+)`", theorems) if name not in there)
 
 
 def wrong_contracts():
@@ -161,6 +164,7 @@ def wrong_contracts():
 
 
 def main():
+    assert not any(map(is_rule, ('"No section"', "request 99", "modules 1 and 99"))) and citations()
     asked = [wrong_citations, wrong_quotes, wrong_numbers, wrong_links, wrong_lines, wrong_readme, wrong_architecture, wrong_contracts]
     wrong = [what for ask in asked for what in ask()]
     if wrong:
