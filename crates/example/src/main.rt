@@ -1,4 +1,4 @@
-// Checks a frame, says what its battery asks for, and joins the receiver's own field behind it.
+// Checks a frame, says whether its battery is low, and joins the receiver's field behind it.
 use doc_writer::scalars;
 use join::Joined;
 use libc::STDIN_FILENO;
@@ -54,6 +54,11 @@ fn add_field(out: &mut [u8], frame: &[u8]) {
 fn main() {
     let mut space = io::large_buffer();
     let n = io::read_full(STDIN_FILENO, &mut space);
+    // a full buffer may hold the front of something longer
+    if n == 65536 {
+        say(b"too long, bytes: ", n);
+        return;
+    }
     let frame = &space[..n];
     if passes(frame) {
         look_up(frame);
