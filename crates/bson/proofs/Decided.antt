@@ -1,20 +1,25 @@
 -- The definition says what DECISIONS.md settles.
-use mathlib.Core.Path.{refl}
-use Rattle.bson.specs.Bytes.{le32, le64, signed, i32, i64, bytes}
+use Prim.Native.Nat.{ℕ, _-_}
+use mathlib.Core.Path.{_≡_, refl, ap, _∙_}
+use mathlib.Core.List.{List}
+use mathlib.Core.Bool.{Bool, true, false, _&&_}
+use lib.ListN.{length, drop}
+use lib.Dec.{leb, eqb}
+use Rattle.bson.specs.Bytes.{le32, le64, signed, i32, i64, natural, bytes}
 use Rattle.bson.specs.Utf8.{rows, utf8}
 use Rattle.bson.specs.Cstring.{zeroText, cstringUnder}
 use Rattle.bson.specs.Tags.{tags, rowOf}
 use Rattle.bson.specs.Framing.{lengthField, fits, zeroEnded, stringSize, pointerSize, documentSize, binarySize, scopeSize}
 use Rattle.bson.specs.Framing.{patternOptionsUnder, regexSizeUnder, framedUnder, valueSizeUnder}
 use Rattle.bson.specs.Step.{admitted, elementUnder, stepUnder, keyAtUnder, iterateFor, iterateUnder}
-use Rattle.bson.specs.Value.{bool, timestampOf, text, binaryValue, scopeValue, content, valueIn, valueOf, elementAtUnder, readAtUnder}
-use Rattle.bson.specs.Value.{readWithUnder, partsOf, partAtUnder}
+use Rattle.bson.specs.Value.{bool, timestampOf, text, declaresData, binaryValue, scopeValue, content, valueIn, valueOf}
+use Rattle.bson.specs.Value.{elementAtUnder, readAtUnder, readWithUnder, partsOf, partAtUnder}
 use Rattle.bson.specs.Lookup.{found, getUnder, getBytesUnder, getWithUnder, getPartUnder, isEmpty}
 use Rattle.bson.specs.ArrayKey.{goodArrayKey}
 use Rattle.bson.specs.Level.{opening}
 use Rattle.bson.specs.Check.{visit, opened, walkFor, walkUnder, checkUnder}
 use Rattle.bson.specs.Decided.{stepPoints, readingPoints, lookupPoints, partPoints, checkPoints, scopePoints, depthPoints}
-use Rattle.bson.specs.Decided.{strictPoints, Hold}
+use Rattle.bson.specs.Decided.{strictPoints, NegativeRefused, Hold}
 
 pub decided-hold : Hold stepPoints × Hold readingPoints × Hold lookupPoints × Hold partPoints
     × Hold checkPoints × Hold scopePoints × Hold depthPoints × Hold strictPoints
@@ -24,3 +29,15 @@ unfolding le32 le64 signed i32 i64 bytes rows utf8 zeroText cstringUnder tags ro
     readWithUnder partsOf partAtUnder found getUnder getBytesUnder getWithUnder getPartUnder isEmpty goodArrayKey opening visit opened
     walkFor walkUnder checkUnder stepPoints readingPoints lookupPoints partPoints checkPoints scopePoints depthPoints strictPoints
 decided-hold = (refl, refl, refl, refl, refl, refl, refl, refl)
+
+and-false : (b : Bool) → b && false ≡ false
+and-false true = refl
+and-false false = refl
+
+negative-differs : (v : List ℕ) → natural (le32 (drop 5 v)) ≡ false → declaresData v ≡ false
+negative-differs v n =
+    ap (λ (b : Bool). leb 9 (length v) && (b && eqb (le32 (drop 5 v)) (length v - 9))) n ∙ and-false (leb 9 (length v))
+
+pub negative-refused : NegativeRefused
+unfolding binaryValue
+negative-refused v p t n = rw (t, negative-differs v n)

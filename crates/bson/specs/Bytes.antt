@@ -32,6 +32,10 @@ i64 v = signed 0x8000_0000_0000_0000 (le64 v)
 abbrev pub natural : ℕ → Bool
 natural bits = ltb bits 0x8000_0000
 
+-- the i32 in front is so many: not negative, and equal
+abbrev pub declares : List ℕ → ℕ → Bool
+declares v n = natural (le32 v) && eqb (le32 v) n
+
 -- a part of a slice: where it begins and how many bytes it has
 pub record Part : Type 0 where
   pub offset : ℕ

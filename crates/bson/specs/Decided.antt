@@ -3,11 +3,11 @@ use Prim.Native.Nat.{ℕ}
 use mathlib.Core.Path.{_≡_}
 use mathlib.Core.List.{List, [], _∷_, _++_}
 use mathlib.Core.Bool.{true, false, cond}
-use lib.ListN.{length}
+use lib.ListN.{length, getD, drop}
 use Rattle.bson.specs.Answer.{Answer, gives, refuses, then}
 use Rattle.bson.specs.Step.{cursor, step, keyAt}
-use Rattle.bson.specs.Bytes.{le32}
-use Rattle.bson.specs.Value.{first, second, bool, valueOf, readAt, readWith, partAt}
+use Rattle.bson.specs.Bytes.{le32, natural, Part}
+use Rattle.bson.specs.Value.{first, second, bool, binaryValue, valueOf, readAt, readWith, partAt}
 use Rattle.bson.specs.Vectors.{elem}
 use Rattle.bson.specs.Lookup.{get, getBytes, getWith, typed, getPart, isEmpty}
 use Rattle.bson.specs.Check.{walk, check}
@@ -185,6 +185,12 @@ strictPoints =
     -- the key of an array comes before reading
     ∷ (check true (0x0F ∷ 0 ∷ 0 ∷ 0 ∷ 0x04 ∷ 0 ∷ badBoolean ++ (0 ∷ [])), refuses 19 10)
     ∷ []
+
+-- ---- what no bytes can show
+
+-- data of subtype 2 whose inner length is negative: 12, also where so many bytes lie behind it as its bits say
+abbrev pub NegativeRefused : Type 0
+NegativeRefused = (v : List ℕ) (p : Part) → getD v 4 0 ≡ 2 → natural (le32 (drop 5 v)) ≡ false → binaryValue v p ≡ refuses 12 0
 
 -- ---- points that hold
 

@@ -5,7 +5,7 @@ use mathlib.Core.Bool.{Bool, true, false, cond, _&&_}
 use lib.ListN.{length, getD, drop}
 use lib.Dec.{leb, eqb}
 use Rattle.bson.specs.Answer.{Answer, gives, refuses, then, unless, at}
-use Rattle.bson.specs.Bytes.{le32, natural, Part, part, bytes}
+use Rattle.bson.specs.Bytes.{declares, Part, part, bytes}
 use Rattle.bson.specs.Cstring.{Limit, unlimited, cstringUnder}
 use Rattle.bson.specs.Framing.{valueSizeUnder}
 
@@ -19,7 +19,7 @@ terminator s = length s - 1
 unfoldable pub admitted : List ℕ → Answer ℕ
 admitted s =
     unless (leb 5 (length s)) 1
-    (unless (natural (le32 s) && eqb (le32 s) (length s)) 2
+    (unless (declares s (length s)) 2
     (unless (eqb (getD s (terminator s) 0) 0) 3
     (gives (length s))))
 

@@ -6,7 +6,7 @@ use lib.ListN.{length, getD, drop}
 use lib.Dec.{leb, ltb, eqb}
 use lib.IntN.{ℤ}
 use Rattle.bson.specs.Answer.{Answer, gives, then, unless, at}
-use Rattle.bson.specs.Bytes.{le32, le64, i32, i64, Part, part, bytes, trim}
+use Rattle.bson.specs.Bytes.{le32, le64, i32, i64, declares, Part, part, bytes, trim}
 use Rattle.bson.specs.Utf8.{utf8}
 use Rattle.bson.specs.Tags
 use Rattle.bson.specs.Framing.{inFront, stringSize, patternOptions}
@@ -60,12 +60,16 @@ timestampOf v =
 unfoldable pub text : List ℕ → Part → Answer Part
 text s t = unless (utf8 (bytes s t)) 6 (gives t)
 
+-- "the data must begin with an i32 equal to the bytes after it"
+abbrev pub declaresData : List ℕ → Bool
+declaresData v = leb 9 (length v) && declares (drop 5 v) (length v - 9)
+
 -- "under subtype 2 the data must begin with an i32 equal to the bytes after it (12), which are the part given"
 unfoldable pub binaryValue : List ℕ → Part → Answer Value
 binaryValue v p =
     let subtype = getD v 4 0 in
     cond (eqb subtype 2)
-    (unless (leb 9 (length v) && eqb (le32 (drop 5 v)) (length v - 9)) 12
+    (unless (declaresData v) 12
     (gives (leaf (binary 2 (trim 9 0 p)))))
     (gives (leaf (binary subtype (trim 5 0 p))))
 

@@ -1,9 +1,9 @@
 -- The numbers that C is handed for a value that was read tell the value: from its tag, its number and its parts it is had again
 -- (RULES.md, "Values" and module 8).
-use Prim.Native.Nat.{ℕ, _+_, _*_, _-_, _/_, _%_}
+use Prim.Native.Nat.{ℕ, _+_, _*_, _/_, _%_}
 use mathlib.Core.Path.{_≡_, refl, ap, subst}
 use mathlib.Core.List.{List}
-use mathlib.Core.Bool.{Bool, true, false, cond, _&&_}
+use mathlib.Core.Bool.{Bool, true, false, cond}
 use native.Mathlib.Omega.{arith}
 use lib.Dec.{leb, eqb}
 use lib.IntN.{ℤ}
@@ -30,8 +30,8 @@ use Rattle.c_answers.proofs.Tells.{tells, answerOf, answer-refused}
 use Tags.{ElementType, Boolean, Int32, Double, Int64, DateTime, Timestamp, ObjectId, Decimal128, Null, Undefined, MinKey, MaxKey, String}
 use Tags.{JavaScriptCode, Symbol, DbPointer, EmbeddedDocument, Array, Binary, RegularExpression, JavaScriptCodeWithScope, typeOf}
 use Value.{Leaf, Value, leaf, document, array, codeWithScope, boolean, int32, int64, dateTime, double, timestamp, objectId, decimal128}
-use Value.{string, code, symbol, null, undefined, minKey, maxKey, dbPointer, binary, regex, asLeaf, bool, timestampOf, text, binaryValue}
-use Value.{content, valueIn, valueOf, readAtUnder, partsOf}
+use Value.{string, code, symbol, null, undefined, minKey, maxKey, dbPointer, binary, regex, asLeaf, bool, timestampOf, text, declaresData}
+use Value.{binaryValue, content, valueIn, valueOf, readAtUnder, partsOf}
 
 -- ---- values, type by type
 
@@ -99,7 +99,7 @@ module _ (s : List ℕ) (small : AreBytes s) where
     unfolding binaryValue tagOf bitsOf partsOf
     binary-had w p e =
         split (eqb (getD w 4 0) 2)
-        (λ t. had _ refl (unless-gives (leb 9 (length w) && eqb (le32 (drop 5 w)) (length w - 9)) 12 _ (rw t at e) .1))
+        (λ t. had _ refl (unless-gives (declaresData w) 12 _ (rw t at e) .1))
         (λ t. had _ refl (rw t at e))
 
     content-had : (p : Part) (t : ElementType) → content s p t ≡ gives v → Had v

@@ -2,7 +2,7 @@
 use Prim.Native.Nat.{ℕ, _+_, _-_, _≤_, _<_}
 use mathlib.Core.Path.{_≡_, refl, sym, ap, subst, _∙_}
 use mathlib.Core.List.{List}
-use mathlib.Core.Bool.{Bool, true, _&&_}
+use mathlib.Core.Bool.{Bool, true}
 use native.Mathlib.Omega.{arith}
 use lib.ListN.{length, getD, take, drop, length-drop}
 use lib.Seq.{length-take-le, getD-take}
@@ -25,8 +25,8 @@ use Rattle.laws.specs.FramedAt.{FramedAt}
 use Rattle.laws.proofs.StepLaws.{admitted-says}
 use Tags.{ElementType, Boolean, Int32, Double, Int64, DateTime, Timestamp, ObjectId, Decimal128, Null, Undefined, MinKey, MaxKey, String}
 use Tags.{JavaScriptCode, Symbol, DbPointer, EmbeddedDocument, Array, Binary, RegularExpression, JavaScriptCodeWithScope, typeOf}
-use Value.{Leaf, Value, leaf, document, array, codeWithScope, asLeaf, bool, timestampOf, text, binaryValue, scopeValue, content, valueIn}
-use Value.{valueOf}
+use Value.{Leaf, Value, leaf, document, array, codeWithScope, asLeaf, bool, timestampOf, text, declaresData, binaryValue, scopeValue}
+use Value.{content, valueIn, valueOf}
 
 -- ---- values by what they open
 
@@ -42,7 +42,7 @@ module _ (P : Value → Type 0) (leafy : (x : Leaf) → P (leaf x)) (v : Value) 
   unfolding binaryValue
   binary-case b w e =
       split (eqb (getD b 4 0) 2)
-      (λ t. leaf-case (unless-gives (leb 9 (length b) && eqb (le32 (drop 5 b)) (length b - 9)) 12 _ (rw t at e) .1))
+      (λ t. leaf-case (unless-gives (declaresData b) 12 _ (rw t at e) .1))
       (λ t. leaf-case (rw t at e))
 
   module _ (s : List ℕ) (w : Part)

@@ -2,13 +2,13 @@
 use Prim.Native.Nat.{ℕ, _+_, _-_, _≤_}
 use mathlib.Core.Path.{_≡_, subst}
 use mathlib.Core.List.{List}
-use mathlib.Core.Bool.{false, _&&_}
+use mathlib.Core.Bool.{false}
 use native.Mathlib.Omega.{arith}
 use lib.ListN.{length, getD, drop}
 use lib.Dec.{leb, eqb}
 use borrow.Author.Tests.{leb-true}
 use Rattle.bson.specs.Answer.{Answer, gives}
-use Rattle.bson.specs.Bytes.{le32, le64, i32, i64, Part, bytes, trim}
+use Rattle.bson.specs.Bytes.{le64, i32, i64, Part, bytes, trim}
 use Rattle.bson.specs.Utf8.{utf8}
 use Rattle.bson.specs.Tags
 use Rattle.bson.specs.Framing.{inFront, patternOptions, framed, framedUnder}
@@ -25,8 +25,8 @@ use Rattle.laws.proofs.StepLaws.{step-yields}
 use Rattle.laws.proofs.OpenLaws.{scope-says, value-content}
 use Tags.{ElementType, Boolean, Int32, Double, Int64, DateTime, Timestamp, ObjectId, Decimal128, Null, Undefined, MinKey, MaxKey, String}
 use Tags.{JavaScriptCode, Symbol, DbPointer, EmbeddedDocument, Array, Binary, RegularExpression, JavaScriptCodeWithScope}
-use Value.{Leaf, Value, leaf, asLeaf, bool, timestampOf, text, binaryValue, scopeValue, content, valueOf, string, code, symbol, dbPointer}
-use Value.{readAt, partsOf}
+use Value.{Leaf, Value, leaf, asLeaf, bool, timestampOf, text, declaresData, binaryValue, scopeValue, content, valueOf, string, code}
+use Value.{symbol, dbPointer, readAt, partsOf}
 
 -- a part ends in a slice of this length
 abbrev pub PartEnds : ℕ → Part → Type 0
@@ -58,7 +58,7 @@ module _ (s : List ℕ) (w : Part) (v : Value) (inside : w .offset + w .size ≤
   old-or-new l e =
       let b = bytes s w in
       split (eqb (getD b 4 0) 2)
-      (λ t. let (u, x) = unless-gives (leb 9 (length b) && eqb (le32 (drop 5 b)) (length b - 9)) 12 _ (rw t at e) in
+      (λ t. let (u, x) = unless-gives (declaresData b) 12 _ (rw t at e) in
       let k = leb-true 9 (length b) (both-hold (leb 9 (length b)) _ u .0) in
       known (length s) v _ x (omega (arith, bytes-length s w inside), omega arith))
       (λ t. known (length s) v _ (rw t at e) (omega arith, omega arith))

@@ -9,7 +9,7 @@ use native.Mathlib.Omega.{arith}
 use lib.Dec.{leb, ltb, eqb}
 use lib.ListN.{length, getD, take, drop}
 use Rattle.bson.specs.Answer.{Answer, gives, refuses, unless}
-use Rattle.bson.specs.Bytes.{le32, le64, i32, i64, natural, Part, part, bytes, trim, same}
+use Rattle.bson.specs.Bytes.{le32, le64, i32, i64, natural, declares, Part, part, bytes, trim, same}
 use Rattle.bson.specs.Utf8.{utf8}
 use Rattle.bson.specs.Cstring.{firstZero, Limit, unlimited, most, zeroText, seen, missing, cstringUnder}
 use Rattle.bson.specs.Tags
@@ -17,8 +17,8 @@ use Rattle.bson.specs.Framing.{lengthField, fits, inFront, zeroEnded, stringSiz
 use Rattle.bson.specs.Framing.{patternOptionsUnder, regexSizeUnder, framedUnder, valueSizeUnder, patternOptions, regexSize}
 use Rattle.bson.specs.Step.{terminator, admitted, Cursor, cursor, Element, past, elementUnder, Step, yield, end, stepUnder, yielded}
 use Rattle.bson.specs.Step.{Iteration, ended, broken, more, onward, iterateFor, iterateUnder}
-use Rattle.bson.specs.Value.{bool, timestampOf, text, binaryValue, scopeValue, content, valueIn, valueOf, ofTag, elementAtUnder}
-use Rattle.bson.specs.Value.{readAtUnder, readWithUnder}
+use Rattle.bson.specs.Value.{bool, timestampOf, text, declaresData, binaryValue, scopeValue, content, valueIn, valueOf, ofTag}
+use Rattle.bson.specs.Value.{elementAtUnder, readAtUnder, readWithUnder}
 use Rattle.bson.specs.Lookup.{found, first, getUnder, getWithUnder, isEmpty}
 use Rattle.bson.specs.Level.{Opening, closed, opens, Level, outermost}
 use Rattle.bson.specs.Check.{Walk, keyPasses, visit, inside, opened, along, walkFor, walkUnder, checkUnder, check}
@@ -47,7 +47,7 @@ pub admitted-in : (s : List ℕ) → RefusesIn admissions (admitted s)
 unfolding admitted
 admitted-in s =
     unless-in (leb 5 (length s)) 1 refl
-    (unless-in (natural (le32 s) && eqb (le32 s) (length s)) 2 refl
+    (unless-in (declares s (length s)) 2 refl
     (unless-in (eqb (getD s (terminator s) 0) 0) 3 refl given))
 
 pub empty-in : (s : List ℕ) → RefusesIn admissions (isEmpty s)
@@ -109,7 +109,7 @@ timestamp-in v = then-in (front-in 4 le32 v) (λ i q. then-in (front-in 4 le32 (
 binary-in : (v : List ℕ) (p : Part) → RefusesIn contents (binaryValue v p)
 unfolding binaryValue
 binary-in v p =
-    cond-in (eqb (getD v 4 0) 2) (unless-in (leb 9 (length v) && eqb (le32 (drop 5 v)) (length v - 9)) 12 refl given) given
+    cond-in (eqb (getD v 4 0) 2) (unless-in (declaresData v) 12 refl given) given
 
 scope-in : (v : List ℕ) (p : Part) → RefusesIn contents (scopeValue v p)
 unfolding scopeValue

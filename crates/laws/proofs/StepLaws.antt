@@ -9,7 +9,7 @@ use lib.Seq.{getD-drop}
 use lib.Dec.{leb, eqb}
 use borrow.Author.Tests.{leb-true, ltb-true, le-leb, lt-ltb, eq-eqb, ne-eqb, eqb-true, eqb-false}
 use Rattle.bson.specs.Answer.{Answer, gives, refuses}
-use Rattle.bson.specs.Bytes.{le32, natural, bytes, same}
+use Rattle.bson.specs.Bytes.{le32, natural, declares, bytes, same}
 use Rattle.bson.specs.Utf8.{utf8}
 use Rattle.bson.specs.Cstring.{Limit, isZero, firstZero, cstring, validCstr, cstringUnder, zeroText}
 use Rattle.bson.specs.Framing.{valueSize, valueSizeUnder}
@@ -29,7 +29,7 @@ pub admitted-says : (s : List ℕ) (n : ℕ) → admitted s ≡ gives n
 unfolding admitted
 admitted-says s n e =
     let (t, e1) = unless-gives (leb 5 (length s)) 1 _ e in
-    let (u, e2) = unless-gives (natural (le32 s) && eqb (le32 s) (length s)) 2 _ e1 in
+    let (u, e2) = unless-gives (declares s (length s)) 2 _ e1 in
     let (w, e3) = unless-gives (eqb (getD s (terminator s) 0) 0) 3 _ e2 in
     let (k, l) = both-hold (natural (le32 s)) (eqb (le32 s) (length s)) u in
     let i = eqb-true (le32 s) (length s) l in

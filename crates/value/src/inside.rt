@@ -1,12 +1,9 @@
 // What the bytes of a framed value are tested for: text, the second length of old binary data, code and its scope (RULES.md,
 // "Values"; src/raw/value.rs of the Rust).
-ghost use Prim.Native.Nat.{_-_};
 ghost use mathlib.Core.Path.{_≡_};
-ghost use mathlib.Core.Bool.{_&&_};
-ghost use lib.Dec.{leb, eqb};
-ghost use lib.ListN.{length, drop};
-ghost use Rattle.bson.specs.Bytes.{le32, bytes};
+ghost use Rattle.bson.specs.Bytes.{bytes};
 ghost use Rattle.bson.specs.Utf8.{utf8};
+ghost use Rattle.bson.specs.Value.{declaresData};
 ghost use Rattle.part.specs.Said.{saidLength, saidPart};
 ghost use Rattle.value.specs.Code.{codeSize, scopeAt};
 use num::Uint32;
@@ -22,16 +19,21 @@ pub fn is_text(s: &[u8], part: Part) -> bool
     utf8::is_utf8(part::bytes_of(s, part))
 }
 
-// Whether data of subtype 2 begins with a length equal to the bytes behind it.
+// Whether data of subtype 2 begins with a length, not negative, equal to the bytes behind it.
 pub fn is_old_binary(v: &[u8]) -> bool
-    ensures { λ r. ⌜ r ≡ (leb 9 (length (now (v .entry))) && eqb (le32 (drop 5 (now (v .entry)))) (length (now (v .entry)) - 9)) ⌝ }
+    ensures { λ r. ⌜ r ≡ declaresData (now (v .entry)) ⌝ }
 {
     if v.len() < 9 {
         return false;
     }
     match num::u32_from_slice(&v[5..]) {
         Uint32::Refused(_) => false,
-        Uint32::Is(n) => (n as usize) == v.len() - 9,
+        Uint32::Is(n) => {
+            if bounds::NEGATIVE <= n {
+                return false;
+            }
+            (n as usize) == v.len() - 9
+        }
     }
 }
 

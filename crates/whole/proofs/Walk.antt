@@ -3,12 +3,12 @@
 use Prim.Native.Nat.{ℕ, suc, _+_, _≤_, _<_}
 use mathlib.Core.Path.{_≡_, refl, sym, ap, subst, _∙_}
 use mathlib.Core.List.{List}
-use mathlib.Core.Bool.{Bool, true, false, _&&_}
+use mathlib.Core.Bool.{Bool, true, false}
 use native.Mathlib.Omega.{arith}
 use lib.ListN.{length, getD}
 use lib.Dec.{leb, eqb}
 use Rattle.bson.specs.Answer.{Answer, gives, refuses, then, unless}
-use Rattle.bson.specs.Bytes.{le32, natural, Part, bytes}
+use Rattle.bson.specs.Bytes.{declares, Part, bytes}
 use Rattle.bson.specs.Cstring.{Limit}
 use Rattle.bson.specs.Step.{terminator, admitted, cursor, Cursor, Element, past, yield, end, stepUnder}
 use Rattle.bson.specs.Value.{Value, leaf, document, array, codeWithScope}
@@ -35,7 +35,7 @@ admission-at-0 : (s : List ℕ) (n p : ℕ) → admitted s ≡ refuses n p → p
 unfolding admitted
 admission-at-0 s n p =
     unless-at-0 (leb 5 (length s)) 1 _ n p
-    (unless-at-0 (natural (le32 s) && eqb (le32 s) (length s)) 2 _ n p
+    (unless-at-0 (declares s (length s)) 2 _ n p
     (unless-at-0 (eqb (getD s (terminator s) 0) 0) 3 _ n p (λ q. never (sym q))))
 
 -- the place of a step's refusal does not lie behind its offset

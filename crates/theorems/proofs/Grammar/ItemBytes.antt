@@ -3,14 +3,14 @@
 use Prim.Native.Nat.{ℕ, _+_, _-_, _≤_}
 use mathlib.Core.Path.{_≡_, refl, sym, ap, subst, _∙_}
 use mathlib.Core.List.{List, [], _∷_, _++_}
-use mathlib.Core.Bool.{Bool, true, false, cond, _&&_}
+use mathlib.Core.Bool.{Bool, true, false, cond}
 use native.Mathlib.Omega.{arith}
 use lib.ListN.{length, getD, take, drop, length-drop}
 use lib.Seq.{take-all}
 use lib.Dec.{leb, eqb}
 use borrow.Author.Tests.{leb-true, eqb-true, eqb-false}
 use Rattle.bson.specs.Answer.{gives}
-use Rattle.bson.specs.Bytes.{AreBytes, le32, le64, i32, i64, Part, part, bytes, trim}
+use Rattle.bson.specs.Bytes.{AreBytes, le32, le64, i32, i64, natural, Part, part, bytes, trim}
 use Rattle.bson.specs.Utf8.{utf8}
 use Rattle.bson.specs.Tags
 use Rattle.bson.specs.Framing.{fits, inFront, stringSize, pointerSize, binarySize, patternOptions, regexSize, scopeSize, framed, valueSize}
@@ -33,7 +33,7 @@ use Rattle.theorems.proofs.Grammar.ItemReads.{bytes-here, regex-here}
 use Tags.{ElementType, Boolean, Int32, Double, Int64, DateTime, Timestamp, ObjectId, Decimal128, Null, Undefined, MinKey, MaxKey, String}
 use Tags.{JavaScriptCode, Symbol, DbPointer, EmbeddedDocument, Array, Binary, RegularExpression, JavaScriptCodeWithScope, fixed, typeOf}
 use Value.{boolean, int32, int64, dateTime, double, timestamp, string, code, symbol, null, undefined, minKey, maxKey, dbPointer, binary}
-use Value.{regex, Leaf, Value, leaf, asLeaf, bool, timestampOf, text, binaryValue, scopeValue, content, valueIn, valueOf}
+use Value.{regex, Leaf, Value, leaf, asLeaf, bool, timestampOf, text, declaresData, binaryValue, scopeValue, content, valueIn, valueOf}
 use Rattle.bson.specs.Cstring.{unlimited}
 
 -- ---- bytes that are a value's
@@ -200,12 +200,12 @@ module _ (s : List ℕ) (b : AreBytes s) (p : Part) (inside : p .offset + p .siz
       let back = bytes-trim s p 5 inside (omega (arith, bytes-length s p inside)) in
       known 0x05 _ e (record { tagged = refl; good = refl; fitting = tt; value = rw back (binary-back _ (bytes-are s p b) l t) })
 
-  of-old-data : length (bytes s p) ≡ 5 + le32 (bytes s p) → eqb (getD (bytes s p) 4 0) 2 ≡ true
-      → leb 9 (length (bytes s p)) && eqb (le32 (drop 5 (bytes s p))) (length (bytes s p) - 9) ≡ true
+  of-old-data : length (bytes s p) ≡ 5 + le32 (bytes s p) → eqb (getD (bytes s p) 4 0) 2 ≡ true → declaresData (bytes s p) ≡ true
       → gives (leaf (binary 2 (trim 9 0 p))) ≡ gives v → CodesOf s 0x05 p (holding s v)
   unfolding row
   of-old-data l t u e =
-      let (j, k) = both-hold (leb 9 (length (bytes s p))) _ u in
+      let (j, i) = both-hold (leb 9 (length (bytes s p))) _ u in
+      let (_, k) = both-hold (natural (le32 (drop 5 (bytes s p)))) _ i in
       let m = leb-true 9 (length (bytes s p)) j in
       let back = bytes-trim s p 9 inside (omega (arith, bytes-length s p inside)) in
       let is = old-binary-back (bytes s p) (bytes-are s p b) l t m (eqb-true _ _ k) in
@@ -218,7 +218,7 @@ module _ (s : List ℕ) (b : AreBytes s) (p : Part) (inside : p .offset + p .siz
       let (i, _) = binary-is _ (p .size) f in
       let l : length w ≡ 5 + le32 w = omega (arith, bytes-length s p inside, le32-here (omega arith)) in
       split (eqb (getD w 4 0) 2)
-      (λ t. let (u, x) = unless-gives (leb 9 (length w) && eqb (le32 (drop 5 w)) (length w - 9)) 12 _ (rw t at e) in of-old-data l t u x)
+      (λ t. let (u, x) = unless-gives (declaresData w) 12 _ (rw t at e) in of-old-data l t u x)
       (λ t. of-data l t (rw t at e))
 
   -- ---- every type

@@ -8,7 +8,7 @@ use native.Mathlib.Omega.{arith}
 use lib.ListN.{length, getD, drop, length-append}
 use lib.Seq.{take-append-seam, drop-append-seam, drop-append-add, drop-at, drop-drop}
 use lib.Dec.{eqb}
-use borrow.Author.Tests.{le-leb, eq-eqb, eqb-true}
+use borrow.Author.Tests.{le-leb, lt-ltb, eq-eqb, eqb-true}
 use Rattle.bson.specs.Answer.{gives}
 use Rattle.bson.specs.Bytes.{le32, le64, i32, i64, Part, part, bytes, trim}
 use Rattle.bson.specs.Utf8.{utf8}
@@ -181,6 +181,7 @@ of-old-data d s offset back small here inside =
       subtype-of (n + 4) 2 w .0,
       subtype-of (n + 4) 2 w .1,
       le-leb 9 (length value) (omega arith),
+      lt-ltb (le32 w) 0x8000_0000 (omega arith),
       eq-eqb (le32 w) (length value - 9) k,
     ))
     (ap (binary 2) (bytes-here s (offset + 9) d back behind _ (omega arith)))
