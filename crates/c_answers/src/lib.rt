@@ -105,9 +105,9 @@ pub fn of_empty(e: Empty) -> VerdictNumbers
             place: 0,
             count: empty as u64,
         },
-        Empty::Refused(number) => VerdictNumbers {
+        Empty::Refused { number, place } => VerdictNumbers {
             number: number as u64,
-            place: 0,
+            place: place as u64,
             count: 0,
         },
     }

@@ -5,11 +5,12 @@ use borrow.Fn.Kinds.{Dens}
 use denote.Ref.{now}
 use Rattle.bson.specs.Answer.{Answer}
 use Rattle.bson.specs.Lookup as paper
-use Rattle.laws.proofs.Determined.{Determined, DeterminedPart, injective-by, unsaid, unsaidAt}
-use Rattle.part.proofs.Determined.{length-injective}
+use Rattle.laws.proofs.Determined.{Determined, DeterminedPart, injective-by, unsaidAt}
 use Rattle.iter.proofs.Determined.{unsaidElement}
 use Rattle.value.proofs.Determined.{unsaidValue, value-again}
-use Rattle.document.specs.Said.{saidEmpty, said}
+use Rattle.document.specs.Said.{saidAdmission, saidEmpty, said}
+use Rattle.document.specs.declared.Admission.{Admission}
+use Rattle.document.specs.declared.Admission.the-variants as admission
 use Rattle.document.specs.declared.Empty.{Empty}
 use Rattle.document.specs.declared.Empty.the-variants as empty
 use Rattle.document.specs.declared.Found.{Found}
@@ -35,15 +36,20 @@ use Rattle.document.proofs.get_part_under.Kinds as get-part-under-kinds
 use Rattle.document.proofs.get_part.Reads as get-part-reads
 use Rattle.document.proofs.get_part.Kinds as get-part-kinds
 
-pub from-bytes-determined : (κs : Lfts 1) (a : Dens κs from-bytes-kinds.ps) → Determined (from-bytes-reads.Post κs a)
-from-bytes-determined κs a r₁ r₂ s₁ s₂ p q = length-injective r₁ r₂ (p ∙ sym q)
+admission-again : (r : Admission) → unsaidAt admission.Is admission.Refused (saidAdmission r) ≡ r
+admission-again (admission.Is n) = refl
+admission-again (admission.Refused number place) = refl
 
-empty-again : (r : Empty) → unsaid empty.Is empty.Refused (saidEmpty r) ≡ r
+pub from-bytes-determined : (κs : Lfts 1) (a : Dens κs from-bytes-kinds.ps) → Determined (from-bytes-reads.Post κs a)
+from-bytes-determined κs a r₁ r₂ s₁ s₂ p q =
+    injective-by saidAdmission (unsaidAt admission.Is admission.Refused) admission-again r₁ r₂ (p ∙ sym q)
+
+empty-again : (r : Empty) → unsaidAt empty.Is empty.Refused (saidEmpty r) ≡ r
 empty-again (empty.Is b) = refl
-empty-again (empty.Refused number) = refl
+empty-again (empty.Refused number place) = refl
 
 pub is-empty-determined : (κs : Lfts 1) (a : Dens κs is-empty-kinds.ps) → Determined (is-empty-reads.Post κs a)
-is-empty-determined κs a r₁ r₂ s₁ s₂ p q = injective-by saidEmpty (unsaid empty.Is empty.Refused) empty-again r₁ r₂ (p ∙ sym q)
+is-empty-determined κs a r₁ r₂ s₁ s₂ p q = injective-by saidEmpty (unsaidAt empty.Is empty.Refused) empty-again r₁ r₂ (p ∙ sym q)
 
 abbrev unsaidFound : Answer paper.Found → Found
 unsaidFound = unsaidAt (λ f. Is (unsaidElement (f .element)) (unsaidValue (f .value))) Refused

@@ -5,11 +5,10 @@ ghost use Rattle.bson.specs.Step.{admitted};
 ghost use Rattle.bson.specs.Lookup.{found as foundIn, getUnder, getBytesUnder, getWithUnder, getPartUnder, get as lookup, getBytes};
 ghost use Rattle.bson.specs.Lookup.{getWith, getPart, isEmpty};
 ghost use Rattle.bson.specs.Value.{ofTag};
-ghost use Rattle.part.specs.Said.{saidLength};
 ghost use Rattle.cstr.specs.Said.{limitOf};
 ghost use Rattle.iter.specs.Said.{saidElement};
 ghost use Rattle.reading.specs.Said.{saidWhich};
-ghost use Rattle.document.specs.Said.{saidEmpty, said, reads};
+ghost use Rattle.document.specs.Said.{saidAdmission, saidEmpty, said, reads};
 use iter::Element;
 use iter::Sizes;
 use part::Length;
@@ -17,9 +16,16 @@ use reading::Reading;
 use reading::Which;
 use value::Value;
 
+// The length of an admitted document, or the number and the place of the refusal.
+pub enum Admission {
+    Is(usize),
+    Refused { number: u8, place: usize },
+}
+
+// Whether a document has no element, or the number and the place of the refusal.
 pub enum Empty {
     Is(bool),
-    Refused(u8),
+    Refused { number: u8, place: usize },
 }
 
 // The first element of a key and its value, or the number and the place of the refusal.
@@ -28,20 +34,23 @@ pub enum Found {
     Refused { number: u8, place: usize },
 }
 
-// Admission: the length of the document that the slice is, else 1, 2, 3.
-pub fn from_bytes(s: &[u8]) -> Length
-    ensures { λ r. ⌜ saidLength r ≡ admitted (now (s .entry)) ⌝ }
+// Admission: the length of the document that the slice is, else 1, 2, 3 at 0.
+pub fn from_bytes(s: &[u8]) -> Admission
+    ensures { λ r. ⌜ saidAdmission r ≡ admitted (now (s .entry)) ⌝ }
 {
-    raw::admit(s)
+    match raw::admit(s) {
+        Length::Refused(number) => Admission::Refused { number, place: 0 },
+        Length::Is(n) => Admission::Is(n),
+    }
 }
 
-// Whether an admitted document has no element, else 1, 2, 3.
+// Whether an admitted document has no element, else 1, 2, 3 at 0.
 pub fn is_empty(s: &[u8]) -> Empty
     ensures { λ r. ⌜ saidEmpty r ≡ isEmpty (now (s .entry)) ⌝ }
 {
     match from_bytes(s) {
-        Length::Refused(number) => Empty::Refused(number),
-        Length::Is(n) => Empty::Is(n == 5),
+        Admission::Refused { number, place } => Empty::Refused { number, place },
+        Admission::Is(n) => Empty::Is(n == 5),
     }
 }
 

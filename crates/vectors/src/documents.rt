@@ -16,15 +16,15 @@ use crate::text::say;
 use crate::text::unhex;
 use crate::text::word_number;
 use crate::values::is_refusal;
+use document::Admission;
 use document::Empty;
-use part::Length;
 use whole::Verdict;
 
 // `admission LENGTH`, or a refusal.
 fn answer_admission(answer: &[u8], document: &[u8]) -> bool {
     match document::from_bytes(document) {
-        Length::Is(n) => (field_count(answer) == 2) & is_field(answer, 1, n as u64),
-        Length::Refused(number) => is_refusal(fields_from(answer, 1), 0, number),
+        Admission::Is(n) => (field_count(answer) == 2) & is_field(answer, 1, n as u64),
+        Admission::Refused { number, place } => is_refusal(fields_from(answer, 1), place, number),
     }
 }
 
@@ -41,7 +41,7 @@ fn answer_empty(answer: &[u8], document: &[u8]) -> bool {
     let said = fields_from(answer, 1);
     match document::is_empty(document) {
         Empty::Is(yes) => (yes & cstr::equal(said, b"yes")) | (!yes & cstr::equal(said, b"no")),
-        Empty::Refused(number) => is_refusal(said, 0, number),
+        Empty::Refused { number, place } => is_refusal(said, place, number),
     }
 }
 

@@ -6,10 +6,10 @@ use crate::text::is_byte;
 use crate::text::is_field;
 use crate::values::is_refusal;
 use crate::values::is_value;
+use document::Admission;
 use iter::Cursor;
 use iter::Element;
 use iter::Step;
-use part::Length;
 use part::Part;
 use reading::Reading;
 use reading::Which;
@@ -18,11 +18,14 @@ use std::num::wrapping_add_usize;
 // Where the first step begins: there is none where the document is not admitted.
 pub fn first_step(document: &[u8]) -> Cursor {
     match document::from_bytes(document) {
-        Length::Is(_) => Cursor {
+        Admission::Is(_) => Cursor {
             offset: 4,
             ended: false,
         },
-        Length::Refused(_) => Cursor {
+        Admission::Refused {
+            number: _,
+            place: _,
+        } => Cursor {
             offset: 4,
             ended: true,
         },
