@@ -4,7 +4,6 @@ use mathlib.Core.Path.{_≡_, refl, sym, _∙_}
 use mathlib.Core.List.{List}
 use contract.Lifetimes.{Lfts}
 use contract.Monad.{fact}
-use borrow.Fn.Kinds.{Dens}
 use borrow.Fn.World.{World}
 use denote.Ref.{RefT, now}
 use denote.Triple.Clauses.{Ended, AtExit, Clauses}
@@ -15,11 +14,9 @@ use Rattle.iter.specs.Said.{saidCursor, Answers}
 use Rattle.iter.specs.declared.Cursor.{Cursor}
 use Rattle.iter.specs.declared.Step.{Step}
 use Rattle.iter.proofs.Determined.{next-determined as iter-next-determined}
-use Rattle.reader.proofs.step_from.Reads as step-from-reads
-use Rattle.reader.proofs.step_from.Kinds as step-from-kinds
+use Rattle.reader.specs.declared.Stepped.{Stepped}
 use Rattle.reader.proofs.new as new
 use Rattle.reader.proofs.next as next
-use Rattle.reader.proofs.moved as moved
 use Rattle.reader.proofs.offset as offset
 use Rattle.reader.proofs.step_at as step-at
 
@@ -35,9 +32,6 @@ one-step : (κs : Lfts 1) (s : RefT (List ℕ)) (c : Cursor) (r₁ r₂ : Step) 
     → Answers r₂ (saidCursor c) (step (now s) (saidCursor c)) → r₁ ≡ r₂
 one-step κs s c r₁ r₂ = iter-next-determined κs (s, (c, tt)) r₁ r₂ (s, (c, tt)) (s, (c, tt))
 
-pub step-from-determined : (κs : Lfts 1) (a : Dens κs step-from-kinds.ps) → Determined (step-from-reads.Post κs a)
-step-from-determined κs a r₁ r₂ s₁ s₂ p q = one-step κs (a .0) (record { offset = a .1 .0; ended = a .1 .1 .0 }) r₁ r₂ p q
-
 abbrev new-promise : Promise new.ended (λ w. new.clauses (w .𝓤) (w .H) (w .𝓖 .A) (w .𝓜 .mem) (w .𝓡 .run))
 new-promise = record { Post = _; says = λ w κs a g r s. refl }
 
@@ -47,14 +41,14 @@ new-determined κs a r₁ r₂ s₁ s₂ p q = p ∙ sym q
 abbrev next-promise : Promise next.ended (λ w. next.clauses (w .𝓤) (w .H) (w .𝓖 .A) (w .𝓜 .mem) (w .𝓡 .run))
 next-promise = record { Post = _; says = λ w κs a g r s. refl }
 
+-- a step and the reader behind it
+both : (t₁ t₂ : Stepped) → t₁ .step ≡ t₂ .step → t₁ .reader ≡ t₂ .reader → t₁ ≡ t₂
+both t₁ t₂ e f = λ i. record { step = e i; reader = f i }
+
 pub next-determined : (κs : Lfts 1) (a : Args next.signature κs) → Determined (next-promise .Post κs a)
-next-determined κs a r₁ r₂ s₁ s₂ p q = one-step κs (a .0 .src) (record { offset = a .0 .offset; ended = a .0 .ended }) r₁ r₂ p q
-
-abbrev moved-promise : Promise moved.ended (λ w. moved.clauses (w .𝓤) (w .H) (w .𝓖 .A) (w .𝓜 .mem) (w .𝓡 .run))
-moved-promise = record { Post = _; says = λ w κs a g r s. refl }
-
-pub moved-determined : (κs : Lfts 1) (a : Args moved.signature κs) → Determined (moved-promise .Post κs a)
-moved-determined κs a r₁ r₂ s₁ s₂ p q = p ∙ sym q
+next-determined κs a r₁ r₂ s₁ s₂ p q =
+    both r₁ r₂ (one-step κs (a .0 .src) (record { offset = a .0 .offset; ended = a .0 .ended }) (r₁ .step) (r₂ .step) (p .0) (q .0))
+    (p .1 ∙ sym (q .1))
 
 abbrev offset-promise : Promise offset.ended (λ w. offset.clauses (w .𝓤) (w .H) (w .𝓖 .A) (w .𝓜 .mem) (w .𝓡 .run))
 offset-promise = record { Post = _; says = λ w κs a g r s. refl }

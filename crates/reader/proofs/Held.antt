@@ -1,5 +1,5 @@
--- What the walks over a reader share: its type, how it is made of a slice and taken apart, and what a call
--- gives back (RULES.md, "Values").
+-- What the walks over a reader share: its type, how it is made of a slice and taken apart, a step with the reader behind it, and what a
+-- call gives back (RULES.md, "Values").
 use mathlib.Core.Path.{_≡_, refl}
 use Prim.Native.Nat.{ℕ, _<_, _^_}
 use mathlib.Core.List.{List, [], _∷_}
@@ -15,15 +15,16 @@ use ghost.Atoms.{Atoms, sem}
 use contract.Lifetimes.{Lfts}
 use contract.Monad.{fact}
 use types.Kit.{Given, Item, ‵, raw, _⊛_, some, given, later, _$_, _∵_, !, qed, move, drop, use1, split, pick, learn, fjoin, frame, show}
-use types.Kit.{check, await, updating, now as at-once, done}
+use types.Kit.{by, check, await, updating, now as at-once, done}
 use denote.RattleType.{RattleType}
 use denote.Laws.{Is, Tells, shows}
 use denote.Plain.{uint-makes, bool-makes}
 use denote.Builtin.{u8, usize, bool}
-use denote.Ref.{RefT, now}
+use denote.Ref.{RefT}
 use denote.Signature.{namedLft, typeAt}
 use denote.Slice.{sliceVal, ShrSlice}
 use denote.Steps.{owned, peeks, heard, nothing}
+use denote.Enum.Laws as EL
 use denote.Struct.Declared.{Declared}
 use denote.Struct.Laws as LL
 use denote.Struct.Rest.{all-own, ownAt, rest, own-open, own-out, own-shut}
@@ -31,13 +32,16 @@ use denote.Struct.Values.{Values}
 use denote.Triple.Clauses.{Ended, Lasts, lasts, atExit, Clauses, ensured, closing}
 use denote.Triple.Entry.{alive}
 use denote.Triple.Spec.{tripleOf}
-use Rattle.bson.specs.Step.{step}
-use Rattle.iter.specs.Said.{Answers}
 use Rattle.iter.specs.declared.Step.{Step}
-use Rattle.reader.specs.Held.{cursorOf}
+use Rattle.iter.proofs.Step as S
+use Rattle.iter.proofs.Step.Laws as S′
+use Rattle.reader.specs.declared.Advanced.{Advanced}
 use Rattle.reader.specs.declared.Reader.{Reader}
+use Rattle.reader.specs.declared.Stepped.{Stepped}
 use Rattle.reader.proofs.Reader as T
 use Rattle.reader.proofs.Reader.Laws as T′
+use Rattle.reader.proofs.Stepped as P
+use Rattle.reader.proofs.Stepped.Laws as P′
 
 -- ---- the reader's type and values
 
@@ -51,9 +55,9 @@ spelled κs = LL.vals (T.the-type (namedLft 1 0 tt κs)) (T′.the-laws (namedLf
 pub told : (κs : Lfts 1) → Tells (Held κs) (Is (Held κs)) (spelled κs)
 told κs = LL.tells (T.the-type (namedLft 1 0 tt κs)) (T′.the-laws (namedLft 1 0 tt κs))
 
--- what the step at a reader answers
-abbrev pub Stepped : Step → Reader → Type 0
-Stepped r d = Answers r (cursorOf d) (step (now (d .src)) (cursorOf d))
+-- the reader of the same slice, at the cursor that a step has come to
+abbrev pub onward : Reader → Advanced → Reader
+onward d a = record { src = d .src; offset = a .offset; ended = a .ended }
 
 -- the machine value of a slice
 abbrev pub view : RefT (List ℕ) → Val
@@ -101,9 +105,51 @@ module _ {M : Type 1} (𝓤 : URA M) (H : Heap 𝓤) (A : Atoms 𝓤) (W : Given
       use1 W (‵ (ownAt (D κ .parts) (L κ) 0 (d .src)) ⊛ ‵ (rest (D κ .parts) (L κ) 0 (fields κ d)))
       (own-out 𝓤 H A W (D κ .parts) (L κ) 0 (fields κ d)) $ split ! $ move ! (1 ∷ []) $ drop ! $ done !)
 
+  -- one of the same slice at another cursor is a reader too
+  pub elsewhere : Is (Held (κ, tt)) d (T′.lowered d ∷ []) → (a : Advanced) → a .offset < 2 ^ 64
+      → Is (Held (κ, tt)) (onward d a) (T′.lowered (onward d a) ∷ [])
+  elsewhere is a fits = LL.owes (D κ) (L κ) (onward d a) (LL.owed (D κ) (L κ) d _ is .0, ((refl, fits), (refl, tt)))
+
   -- its machine value is of its MIR's type, and so is each field's
   pub typed : Is (Held (κ, tt)) d (T′.lowered d ∷ []) → Holds (hasTy (T′.mir (named 0)) (T′.lowered d)) × WT (T′.lowered d)
   typed is = LL.lawful (D κ) (L κ) 𝓤 H A W .typed d _ is .0
+
+-- ---- a step, and one with the reader behind it
+
+-- the machine value of a step, and that it is one
+abbrev pub word : Step → Val
+word s = EL.val S.the-type S′.the-laws s
+
+abbrev pub IsStep : Step → Type 0
+IsStep s = Is S.the-row s (word s ∷ [])
+
+-- the type of a step with the reader behind it, and its machine value
+abbrev pub Carried : Lfts 1 → RattleType
+Carried κs = P.the-row (namedLft 1 0 tt κs)
+
+abbrev D′ : Lft → Declared
+D′ κ = P.the-type (namedLft 1 0 tt (κ, tt))
+
+abbrev L′ : (κ : Lft) → LL.Laws (D′ κ)
+L′ κ = P′.the-laws (namedLft 1 0 tt (κ, tt))
+
+abbrev pub carried : Lft → Stepped → Val
+carried κ t = LL.val (D′ κ) (L′ κ) t
+
+module _ {M : Type 1} (𝓤 : URA M) (H : Heap 𝓤) (A : Atoms 𝓤) (W : Given 𝓤 H A) (κ : Lft) (t : Stepped) where
+  -- a step owns facts alone, so what the slice owns is enough for it and its reader
+  pub carries : IsStep (t .step) → t .reader .offset < 2 ^ 64
+      → ent 𝓤 (sem 𝓤 H A (Lent κ (t .reader .src))) (sem 𝓤 H A (Carried (κ, tt) .own t (carried κ t ∷ [])))
+  carries is fits =
+      qed W (‵ (Lent κ (t .reader .src)) ∷ []) ∵ use1 W (‵ (Own κ (t .reader))) (made 𝓤 H A W κ (t .reader) fits) $
+      nothing ! $ move ! (1 ∷ 0 ∷ []) $ fjoin ! $
+      owned ! S.the-row (Is S.the-row) (EL.makes S.the-type S′.the-plain 𝓤 H A) (t .step) _ is $ fjoin ! $
+      by ! (own-shut 𝓤 H A W (D′ κ) (L′ κ) (t .step, (t .reader, tt)))
+
+  -- its machine value is of its MIR's type
+  pub carried-typed : IsStep (t .step) → Is (Held (κ, tt)) (t .reader) (T′.lowered (t .reader) ∷ [])
+      → Holds (hasTy (P′.mir (named 0)) (carried κ t)) × WT (carried κ t)
+  carried-typed s r = LL.lawful (D′ κ) (L′ κ) 𝓤 H A W .typed t _ (LL.owes (D′ κ) (L′ κ) t (s, (r, tt))) .0
 
 -- ---- calls
 

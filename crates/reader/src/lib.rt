@@ -1,8 +1,8 @@
 // A reader that carries the document and its cursor together (RULES.md, "Values"; `RawIter` in src/raw/iter.rs of the Rust).
 ghost use mathlib.Core.Path.{_≡_};
 ghost use Rattle.bson.specs.Step.{cursor, step};
-ghost use Rattle.iter.specs.Said.{saidCursor, Answers};
-ghost use Rattle.reader.specs.Held.{started, movedTo, cursorOf};
+ghost use Rattle.iter.specs.Said.{saidCursor, cursorBehind, Answers};
+ghost use Rattle.reader.specs.Held.{started, Advances, Steps};
 use iter::Cursor;
 use iter::Step;
 
@@ -13,11 +13,45 @@ pub struct Reader<'a> {
     pub ended: bool,
 }
 
-// The covered function under the reader.
-pub fn step_from(s: &[u8], offset: usize, ended: bool) -> Step
-    ensures { λ r. ⌜ Answers r (cursor offset ended) (step (now (s .entry)) (cursor offset ended)) ⌝ }
+// What a step answers, and the reader behind it: the next step is that reader's.
+pub struct Stepped<'a> {
+    pub step: Step,
+    pub reader: Reader<'a>,
+}
+
+// What a step answers, and the cursor behind it.
+struct Advanced {
+    step: Step,
+    offset: usize,
+    ended: bool,
+}
+
+// The cursor behind a step.
+fn behind(step: Step) -> Cursor
+    ensures { λ c. ⌜ saidCursor c ≡ cursorBehind step ⌝ }
 {
-    iter::next(s, Cursor { offset, ended })
+    match step {
+        Step::Yield { element: _, next } => next,
+        Step::End { next } => next,
+        Step::Refused {
+            number: _,
+            place: _,
+            next,
+        } => next,
+    }
+}
+
+// The step at a cursor. It has no struct with a slice in it, so the borrow checker covers it, and `next` only copies words.
+fn step_from(s: &[u8], offset: usize, ended: bool) -> Advanced
+    ensures { λ a. ⌜ Advances a (now (s .entry)) (cursor offset ended) ⌝ }
+{
+    let step = iter::next(s, Cursor { offset, ended });
+    let next = behind(step);
+    Advanced {
+        step,
+        offset: next.offset,
+        ended: next.ended,
+    }
 }
 
 // A reader at the first element.
@@ -31,21 +65,18 @@ pub fn new<'a>(src: &'a [u8]) -> Reader<'a>
     }
 }
 
-// The step at its cursor.
-pub fn next<'a>(r: Reader<'a>) -> Step
-    ensures { λ s. ⌜ Answers s (cursorOf (r .entry)) (step (now (r .entry .src)) (cursorOf (r .entry))) ⌝ }
+// The step at its cursor, and the reader behind it.
+pub fn next<'a>(r: Reader<'a>) -> Stepped<'a>
+    ensures { λ s. ⌜ Steps s (r .entry) ⌝ }
 {
-    step_from(r.src, r.offset, r.ended)
-}
-
-// The reader moved to a cursor, as to the one behind a step.
-pub fn moved<'a>(r: Reader<'a>, cursor: Cursor) -> Reader<'a>
-    ensures { λ q. ⌜ q ≡ movedTo (r .entry) cursor ⌝ }
-{
-    Reader {
-        src: r.src,
-        offset: cursor.offset,
-        ended: cursor.ended,
+    let advanced = step_from(r.src, r.offset, r.ended);
+    Stepped {
+        step: advanced.step,
+        reader: Reader {
+            src: r.src,
+            offset: advanced.offset,
+            ended: advanced.ended,
+        },
     }
 }
 
@@ -56,9 +87,14 @@ pub fn offset<'a>(r: Reader<'a>) -> usize
     r.offset
 }
 
-// A reader made, moved to a cursor, and stepped: whoever calls this needs no walk by hand.
+// The step of a reader at a cursor: whoever calls this needs no walk by hand.
 pub fn step_at(s: &[u8], cursor: Cursor) -> Step
     ensures { λ r. ⌜ Answers r (saidCursor cursor) (step (now (s .entry)) (saidCursor cursor)) ⌝ }
 {
-    next(moved(new(s), cursor))
+    let stepped = next(Reader {
+        src: s,
+        offset: cursor.offset,
+        ended: cursor.ended,
+    });
+    stepped.step
 }
