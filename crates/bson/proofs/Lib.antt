@@ -4,6 +4,7 @@ pub mod Utf8Points
 pub mod LimitPoints
 pub mod SpanPoints
 pub mod Report
+pub mod ReachPoints
 pub mod GrammarPoints
 pub mod WriterPoints
 pub mod JoinPoints
