@@ -5,6 +5,7 @@ pub mod Undamaged
 pub mod FirstOfKey
 pub mod TypedRefused
 pub mod Demand3
+pub mod DemandPoints
 pub mod OrLong
 pub mod NoGap
 pub mod WhereRefused

@@ -4,3 +4,4 @@ pub mod CallHolds
 pub mod CallTaken
 pub mod ReadBack
 pub mod Builds
+pub mod SessionPoints

@@ -1,7 +1,9 @@
 pub mod Demand3
+pub mod DemandPoints
 pub mod OrLong
 pub mod EveryYield
 pub mod EveryByte
 pub mod FirstChild
 pub mod OneMeaning
 pub mod ReadBack
+pub mod SessionPoints

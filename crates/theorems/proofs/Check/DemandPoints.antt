@@ -1,0 +1,41 @@
+-- Demand 3 says of these documents what RULES.md says: two values, and the first of two elements of a key.
+use mathlib.Core.Path.{_≡_, refl, sym, ap, _∙_}
+use mathlib.Core.Bool.{false}
+use Rattle.bson.specs.Answer.{gives}
+use Rattle.bson.specs.Bytes.{le32, bytes}
+use Rattle.bson.specs.Utf8.{rows, utf8}
+use Rattle.bson.specs.Cstring.{unlimited, zeroText, cstringUnder}
+use Rattle.bson.specs.Tags.{tags, rowOf}
+use Rattle.bson.specs.Framing.{lengthField, fits, zeroEnded, stringSize, scopeSize, framedUnder, valueSizeUnder}
+use Rattle.bson.specs.Step.{admitted, elementUnder, stepUnder, iterateFor, iterateUnder}
+use Rattle.bson.specs.Value.{leaf, boolean, bool, scopeValue, content, valueIn, valueOf}
+use Rattle.bson.specs.Lookup.{Found, found, get, getUnder}
+use Rattle.bson.specs.Level.{outermost, opening}
+use Rattle.bson.specs.Check.{visit, opened, walkFor, walkUnder, check, checkUnder}
+use Rattle.bson.specs.Reach.{first}
+use Rattle.bson.specs.Decided.{twoKeys, nullInScope}
+use Rattle.bson.specs.ReachPoints.{keyA, earlier}
+use Rattle.laws.proofs.AnswerLaws.{gives-injective}
+use Rattle.theorems.specs.Demand3.{Demand3, Lookups}
+use Rattle.theorems.specs.DemandPoints.{DemandPoints}
+
+abbrev there : Found
+there = record { element = earlier; value = leaf (boolean false) }
+
+-- what the check and a lookup answer
+answers : (check false nullInScope ≡ gives 2) × (check false twoKeys ≡ gives 2) × (get twoKeys keyA ≡ gives there)
+unfolding le32 bytes rows utf8 zeroText cstringUnder tags rowOf lengthField fits zeroEnded stringSize scopeSize framedUnder valueSizeUnder
+    admitted elementUnder stepUnder iterateFor iterateUnder bool scopeValue content valueIn valueOf found getUnder opening visit opened walkFor
+    walkUnder checkUnder
+answers = (refl, refl, refl)
+
+lookups : Demand3 unlimited → Lookups unlimited twoKeys keyA
+lookups d = d .undamaged twoKeys 2 (answers .1) .lookups twoKeys outermost first keyA
+
+pub demand-points-hold : DemandPoints
+demand-points-hold =
+    record {
+      two = λ d n x. d .unique nullInScope n 2 x (d .counts nullInScope 2 (answers .0));
+      first = λ d e f. let (v, q) = lookups d .first e .1 f in ap (λ (g : Found). g .element .place) (gives-injective (sym q ∙ answers .2));
+      value = λ d. lookups d .reads there (answers .2);
+    }
