@@ -4,6 +4,7 @@ use crate::damage::damage;
 use crate::draft::Draft;
 use crate::grammar::Garden;
 use crate::limits;
+use crate::long;
 use crate::nest::{code_with_scope, nest};
 use crate::rng::Rng;
 use crate::short::{Family, NARROW, RAW, TELLING, WIDE};
@@ -18,21 +19,23 @@ pub enum Sort {
     Raw,
     Grammar,
     Damaged,
+    Long,
     Session,
 }
 
-pub const SORTS: [Sort; 7] = [
+pub const SORTS: [Sort; 8] = [
     Sort::Wide,
     Sort::Telling,
     Sort::Narrow,
     Sort::Raw,
     Sort::Grammar,
     Sort::Damaged,
+    Sort::Long,
     Sort::Session,
 ];
 
-/// The sorts take turns, so that a run of any length meets all; half of the turns are short bodies.
-const TURNS: [Sort; 16] = [
+/// Half of a round's turns are short bodies.
+const ROUND: [Sort; 16] = [
     Sort::Damaged,
     Sort::Wide,
     Sort::Session,
@@ -50,6 +53,18 @@ const TURNS: [Sort; 16] = [
     Sort::Grammar,
     Sort::Telling,
 ];
+
+/// The sorts take turns, so that a run of any length meets all. Long texts cost the most: one stands in the place of a damaged document in
+/// every sixteenth round.
+const TURNS: [Sort; 256] = {
+    let mut turns = [Sort::Long; 256];
+    let mut turn = 1;
+    while turn < turns.len() {
+        turns[turn] = ROUND[turn % ROUND.len()];
+        turn += 1;
+    }
+    turns
+};
 
 pub enum Case {
     Slice(Vec<u8>),
@@ -73,6 +88,7 @@ impl Sort {
             Some(family) => family.name,
             None if self == Self::Grammar => "documents by the grammar",
             None if self == Self::Damaged => "damaged documents",
+            None if self == Self::Long => "long mixed texts",
             None => "sessions of the writer",
         }
     }
@@ -99,6 +115,7 @@ pub fn case(seed: u64, number: u64) -> Case {
     match sort {
         Sort::Session => session(&mut rng),
         Sort::Grammar => Case::Slice(grammar(&mut rng, Texts::Good).bytes),
+        Sort::Long => long(&mut rng),
         _ => Case::Slice(damaged(&mut rng)),
     }
 }
@@ -127,10 +144,26 @@ fn damaged(rng: &mut Rng) -> Vec<u8> {
     draft.bytes
 }
 
+/// A document with a long text, or a session of the writer that writes one.
+fn long(rng: &mut Rng) -> Case {
+    if rng.once_in(8) {
+        let spare = rng.pick(&SPARE);
+        return Case::Session(long::elements(rng, Texts::Good, false), spare);
+    }
+    let mut draft = Draft::of(&long::elements(rng, Texts::Mixed, true));
+    if rng.once_in(8) {
+        damage(&mut draft, rng);
+    }
+    Case::Slice(draft.bytes)
+}
+
+/// The room behind what a session writes.
+const SPARE: [usize; 4] = [0, 0, 1, 40];
+
 fn session(rng: &mut Rng) -> Case {
     let (texts, scopes) = (Texts::Good, false);
     let deep = rng.once_in(128);
-    let spare = rng.pick(&[0, 0, 1, 40]);
+    let spare = rng.pick(&SPARE);
     let elements = Garden { rng, texts, scopes }.elements(0);
     let elements = match deep {
         true => inside(elements, rng),

@@ -10,6 +10,7 @@ mod ledger;
 mod library;
 mod library_writer;
 mod limits;
+mod long;
 mod lookups;
 mod nest;
 mod panics;

@@ -107,6 +107,11 @@ impl Search {
         found.is_some_and(|found| found.word == self.word)
     }
 
+    /// Whether nothing as long as the best is tried any more: to make candidates would cost without end.
+    fn spent(&self) -> bool {
+        self.left < self.best.bytes.len()
+    }
+
     /// Takes the first that disagrees in the same part; true where there is one.
     fn take(&mut self, candidates: Vec<Limited>) -> bool {
         let mut candidates = candidates.into_iter();
@@ -121,7 +126,7 @@ impl Search {
 
     fn drop_runs(&mut self, run: usize) {
         let mut at = 0;
-        while at + run <= self.best.bytes.len() {
+        while at + run <= self.best.bytes.len() && !self.spent() {
             if !self.take(without(&self.best, at, run)) {
                 at += if run > MOST_EXACT { run / 2 } else { 1 };
             }
@@ -130,7 +135,9 @@ impl Search {
 
     fn lower_bytes(&mut self) {
         for at in 0..self.best.bytes.len() {
-            self.take(lower(&self.best, at));
+            if !self.spent() {
+                self.take(lower(&self.best, at));
+            }
         }
     }
 

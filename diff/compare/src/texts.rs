@@ -31,6 +31,9 @@ const ROWS: [Row; 8] = [
     row([0xF4, 0xF4], [0x80, 0x8F], 2),
 ];
 
+/// The rows of characters of two bytes, of three, of four, and all: the first, and how many they are.
+pub const SIZES: [[usize; 2]; 4] = [[0, 1], [1, 4], [5, 3], [0, 8]];
+
 /// First bytes that no row has.
 const NO_FIRST: [u8; 6] = [0x80, 0xBF, 0xC0, 0xC1, 0xF5, 0xFF];
 
@@ -99,8 +102,23 @@ impl Text<'_> {
         row
     }
 
+    /// Any character of these rows, as SIZES has them.
+    pub fn any(&mut self, rows: [usize; 2], text: &mut Vec<u8>) {
+        let row = &ROWS[rows[0] + self.rng.below(rows[1])];
+        text.extend([row.first, row.second].map(|range| self.within(range)));
+        text.extend((0..row.tails).map(|_| self.within(TAIL)));
+    }
+
+    fn within(&mut self, [least, most]: [u8; 2]) -> u8 {
+        match self.rng.below(4) {
+            0 => least,
+            1 => most,
+            _ => least + self.rng.below(usize::from(most - least) + 1) as u8,
+        }
+    }
+
     /// A character with a byte just outside its row, or cut short, or a byte that begins none.
-    fn bad(&mut self, text: &mut Vec<u8>) {
+    pub fn bad(&mut self, text: &mut Vec<u8>) {
         let start = text.len();
         let row = self.character(text);
         let at = 1 + self.rng.below(1 + row.tails);
