@@ -285,6 +285,15 @@ impl Part<'_> {
     }
 }
 
+/// A key in hexadecimal; of a long one how it begins.
+fn shown(key: &[u8]) -> String {
+    const MOST: usize = 256;
+    match key.get(..MOST) {
+        Some(first) if first != key => format!("{}.., {} bytes", hex::encode(first), key.len()),
+        _ => hex::encode(key),
+    }
+}
+
 impl fmt::Display for Part<'_> {
     fn fmt(&self, f: &mut fmt::Formatter) -> fmt::Result {
         let word = self.word();
@@ -292,8 +301,8 @@ impl fmt::Display for Part<'_> {
             Self::Step(at) | Self::EndedStep(at) | Self::Read(at) | Self::ReadGiven(at) => {
                 write!(f, "{word} at {at}")
             }
-            Self::Get(key) | Self::Looked(key) => write!(f, "{word} [{}]", hex::encode(key)),
-            Self::Typed(key, tag) => write!(f, "{word} [{}] {tag:02x}", hex::encode(key)),
+            Self::Get(key) | Self::Looked(key) => write!(f, "{word} [{}]", shown(key)),
+            Self::Typed(key, tag) => write!(f, "{word} [{}] {tag:02x}", shown(key)),
             Self::Call(number) => write!(f, "{word} {number}"),
             _ => write!(f, "{word}"),
         }

@@ -21,8 +21,8 @@ pub struct Ledger {
     pub first: Option<Disagreement>,
     /// Ask all there is to ask, as for a single case: every wrong tag, every absent key.
     pub thorough: bool,
-    /// Print every part with both answers.
-    pub show: bool,
+    /// How many more parts are printed with both answers.
+    pub show: usize,
 }
 
 impl Ledger {
@@ -31,7 +31,8 @@ impl Ledger {
         if let Some(met) = self.numbers.get_mut(library.number as usize) {
             *met += 1;
         }
-        if self.show {
+        if self.show > 0 {
+            self.show -= 1;
             println!("{part}\n  Rust     {rust}\n  library  {library}");
         }
         if rust != library.answer {

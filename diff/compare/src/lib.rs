@@ -24,6 +24,7 @@ mod slice;
 mod texts;
 mod tree;
 
+use std::fs;
 use std::process::ExitCode;
 use std::thread::available_parallelism;
 
@@ -32,7 +33,7 @@ use run::Plan;
 const SEED: u64 = 1;
 const CASES: u64 = 1_000_000;
 
-/// Takes the arguments `--cases N --seed S --threads T`, or `--only HEX`.
+/// Takes the arguments `--cases N --seed S --threads T`, or `--only HEX`, or `--file PATH`.
 pub fn main() -> ExitCode {
     panics::silence();
     let arguments: Vec<String> = std::env::args().skip(1).collect();
@@ -68,7 +69,11 @@ fn obey(arguments: &[String]) -> Result<bool, String> {
             "--threads" => plan.threads = number()?.max(1) as usize,
             "--only" => {
                 let bytes = hex::decode(value).map_err(|error| format!("{value}: {error}"))?;
-                return Ok(report::only(&bytes));
+                return Ok(report::only(bytes));
+            }
+            "--file" => {
+                let bytes = fs::read(value).map_err(|error| format!("{value}: {error}"))?;
+                return Ok(report::file(bytes));
             }
             _ => return Err(format!("no such argument: {name}")),
         }

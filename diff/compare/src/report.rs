@@ -26,20 +26,20 @@ pub fn outcome(plan: &Plan, outcome: &Outcome) -> bool {
         println!("{}", sort_line(sort, sort.count(cases)));
     }
     println!("{} answers compared", outcome.ledger.answers);
-    let met = |number: &usize| outcome.ledger.numbers[*number];
-    let each = READING
-        .iter()
-        .map(|number| format!("{number}: {}", met(number)));
-    println!(
-        "refusals, number by number: {}",
-        each.collect::<Vec<_>>().join(", ")
-    );
+    println!("{}", refusals(&outcome.ledger));
     println!("{cases} cases, 0 disagree");
-    let missing: Vec<_> = READING.iter().filter(|number| met(number) == 0).collect();
+    let met = |number: usize| outcome.ledger.numbers[number] > 0;
+    let missing: Vec<_> = READING.iter().filter(|number| !met(**number)).collect();
     if !missing.is_empty() {
         println!("too few cases: refusals that were not met: {missing:?}");
     }
     missing.is_empty()
+}
+
+/// How often each number was met.
+fn refusals(ledger: &Ledger) -> String {
+    let each = READING.map(|number| format!("{number}: {}", ledger.numbers[number]));
+    format!("refusals, number by number: {}", each.join(", "))
 }
 
 fn sort_line(sort: Sort, count: u64) -> String {
@@ -87,19 +87,36 @@ fn print_found(found: &Disagreement) {
     println!("  library  {}", found.library);
 }
 
-/// Prints every answer about one slice, without a limit and under each that may tell something; true where nothing disagrees.
-pub fn only(bytes: &[u8]) -> bool {
-    let show = |limit| {
-        println!("answers{}:", under(limit));
+/// Asks all there is to ask about one slice, and prints every answer; true where nothing disagrees.
+pub fn only(bytes: Vec<u8>) -> bool {
+    about(bytes, true, usize::MAX)
+}
+
+/// Asks about one slice, of any size, as about that of a case, and prints the first answers; true where nothing disagrees.
+pub fn file(bytes: Vec<u8>) -> bool {
+    about(bytes, false, SHOWN)
+}
+
+/// So many answers of a file are printed, without a limit and under each.
+const SHOWN: usize = 8;
+
+/// Compares without a limit, and under each that may tell something.
+fn about(bytes: Vec<u8>, thorough: bool, show: usize) -> bool {
+    let limits: Vec<_> = limits::all(&bytes).collect();
+    let longer = slice::lengthened(bytes);
+    let ask = |limit: &Limit| {
+        println!("answers{}:", under(*limit));
         let mut ledger = Ledger {
-            thorough: true,
-            show: true,
+            thorough,
+            show,
             ..Ledger::default()
         };
-        slice::compare(bytes, limit, &mut ledger);
-        Some((limit, ledger.first?))
+        slice::compare_within(&longer, *limit, &mut ledger);
+        println!("{} answers compared{}", ledger.answers, under(*limit));
+        println!("{}", refusals(&ledger));
+        Some((*limit, ledger.first?))
     };
-    let disagree: Vec<_> = limits::all(bytes).filter_map(show).collect();
+    let disagree: Vec<_> = limits.iter().filter_map(ask).collect();
     if let Some((limit, found)) = disagree.first() {
         println!("the first that disagrees{}:", under(*limit));
         print_found(found);

@@ -15,10 +15,25 @@ use crate::panics::caught;
 /// Zeros behind the slice, where a reading past its end would find what it looks for.
 const BEHIND: [u8; 16] = [0; 16];
 
+/// The Rust's own walk keeps all that it reads, so it is not asked about more values than these.
+const MOST_KEPT: usize = 20_000_000;
+
 /// Compares all answers about a slice under a limit, or without one; a panic of the Rust is a disagreement.
 pub fn compare(bytes: &[u8], limit: Limit, ledger: &mut Ledger) {
     let longer = [bytes, &BEHIND].concat();
-    let bytes = &longer[..bytes.len()];
+    compare_within(&longer, limit, ledger);
+}
+
+/// The slice with zeros behind it, in its own memory where it can be.
+pub fn lengthened(mut bytes: Vec<u8>) -> Vec<u8> {
+    bytes.reserve_exact(BEHIND.len());
+    bytes.extend(BEHIND);
+    bytes
+}
+
+/// The same about a slice that has been lengthened, of which no copy is made.
+pub fn compare_within(longer: &[u8], limit: Limit, ledger: &mut Ledger) {
+    let bytes = &longer[..longer.len() - BEHIND.len()];
     let lent = Lent { bytes, limit };
     let compared = caught(|| match RawDocument::from_bytes(bytes) {
         Ok(doc) => admitted(doc, lent, ledger),
@@ -160,7 +175,7 @@ fn checks(doc: &RawDocument, lent: Lent, ledger: &mut Ledger) {
     ledger.hold(Part::Check, plain, said);
 
     // The Rust's own walk has no limit.
-    if lent.limit.is_none() {
+    if lent.limit.is_none() && walk.count <= MOST_KEPT {
         let deep = walk.deep_differs(doc).unwrap_or(word(plain));
         let said = Said::plain(Answer::Verdict(word(said.answer)));
         ledger.hold(Part::DeepCheck, Answer::Verdict(deep), said);
