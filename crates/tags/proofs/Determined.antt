@@ -3,23 +3,18 @@ use mathlib.Core.Path.{_≡_, refl, sym, _∙_}
 use contract.Lifetimes.{Lfts}
 use borrow.Fn.Kinds.{Dens}
 use Rattle.bson.specs.Answer.{Answer, gives, refuses}
-use Rattle.bson.specs.Tags.{Sized, fixed, asString, asPointer, asDocument, asBinary, asRegex, asScope}
+use Rattle.bson.specs.Tags.{Sized}
 use Rattle.laws.proofs.Determined.{Determined, injective-by}
 use Rattle.tags.specs.Said.{said}
 use Rattle.tags.specs.declared.Kind.{Kind}
 use Rattle.tags.specs.declared.Kind.the-variants.{Fixed, String, Pointer, Document, Binary, Regex, Scope, Unknown}
+use Rattle.tags.proofs.Table.{asKind}
 use Rattle.tags.proofs.kind_of.Reads as kind-of-reads
 use Rattle.tags.proofs.kind_of.Kinds as kind-of-kinds
 
 -- what the paper says, back as a case
 abbrev unsaid : Answer Sized → Kind
-unsaid (gives (fixed n)) = Fixed n
-unsaid (gives asString) = String
-unsaid (gives asPointer) = Pointer
-unsaid (gives asDocument) = Document
-unsaid (gives asBinary) = Binary
-unsaid (gives asRegex) = Regex
-unsaid (gives asScope) = Scope
+unsaid (gives s) = asKind s
 unsaid (refuses number place) = Unknown
 
 again : (k : Kind) → unsaid (said k) ≡ k

@@ -2,7 +2,6 @@
 ghost use mathlib.Core.Path.{_≡_};
 ghost use Rattle.bson.specs.Tags.{sizedOf};
 ghost use Rattle.tags.specs.Said.{said};
-ghost use Rattle.tags.specs.Rows.{rowNumber};
 
 // The tags, by the names that the Rust gives its element types.
 pub const DOUBLE: u8 = 0x01;
@@ -47,6 +46,7 @@ pub const MIN_KEY: u8 = 0xFF;
 
 pub const MAX_KEY: u8 = 0x7F;
 
+// How a value is sized: its framing class, with its size where that is fixed. `Unknown` is of a tag that is not in the table.
 pub enum Kind {
     Fixed(usize),
     String,
@@ -58,75 +58,62 @@ pub enum Kind {
     Unknown,
 }
 
-// The rows are the tags 01 to 13, then FF and 7F: class * 32 + size, in one table, as each use of a constant array stores it anew.
-// The classes are 0 fixed, 1 string, 2 pointer, 3 document, 4 binary, 5 regex, 6 scope; a size is given of the fixed alone.
-const ROWS: [u8; 21] = [
-    8, // 01 double
-    1 * 32, // 02 string
-    3 * 32, // 03 document
-    3 * 32, // 04 array
-    4 * 32, // 05 binary
-    0, // 06 undefined
-    12, // 07 object id
-    1, // 08 boolean
-    8, // 09 datetime
-    0, // 0A null
-    5 * 32, // 0B regular expression
-    2 * 32, // 0C DBPointer
-    1 * 32, // 0D code
-    1 * 32, // 0E symbol
-    6 * 32, // 0F code with scope
-    4, // 10 int32
-    8, // 11 timestamp
-    8, // 12 int64
-    16, // 13 decimal128
-    0, // FF min key
-    0, // 7F max key
+// A row of the tag table: the tag, and the framing class and fixed size of its values.
+struct Row {
+    tag: u8,
+    kind: Kind,
+}
+
+// The tag table, row by row as in RULES.md, "Admission and one step".
+#[rattlefmt::skip]
+const ROWS: [Row; 21] = [
+    Row { tag: BOOLEAN, kind: Kind::Fixed(1) },
+    Row { tag: INT32, kind: Kind::Fixed(4) },
+    Row { tag: DOUBLE, kind: Kind::Fixed(8) },
+    Row { tag: INT64, kind: Kind::Fixed(8) },
+    Row { tag: DATE_TIME, kind: Kind::Fixed(8) },
+    Row { tag: TIMESTAMP, kind: Kind::Fixed(8) },
+    Row { tag: OBJECT_ID, kind: Kind::Fixed(12) },
+    Row { tag: DECIMAL128, kind: Kind::Fixed(16) },
+    Row { tag: NULL, kind: Kind::Fixed(0) },
+    Row { tag: UNDEFINED, kind: Kind::Fixed(0) },
+    Row { tag: MIN_KEY, kind: Kind::Fixed(0) },
+    Row { tag: MAX_KEY, kind: Kind::Fixed(0) },
+    Row { tag: STRING, kind: Kind::String },
+    Row { tag: CODE, kind: Kind::String },
+    Row { tag: SYMBOL, kind: Kind::String },
+    Row { tag: DB_POINTER, kind: Kind::Pointer },
+    Row { tag: DOCUMENT, kind: Kind::Document },
+    Row { tag: ARRAY, kind: Kind::Document },
+    Row { tag: BINARY, kind: Kind::Binary },
+    Row { tag: REGULAR_EXPRESSION, kind: Kind::Regex },
+    Row { tag: CODE_WITH_SCOPE, kind: Kind::Scope },
 ];
 
-fn wide(x: u8) -> usize
-    ensures { λ r. ⌜ r ≡ x ⌝ }
-{
-    x as usize
-}
-
-// The row of a tag, or 21 where it has none.
-fn row(tag: u8) -> usize
-    ensures { λ r. ⌜ r ≡ rowNumber tag ⌝ }
-{
-    if tag == 0 {
-        return 21;
-    }
-    if tag < 20 {
-        return wide(tag) - 1;
-    }
-    if tag == MIN_KEY {
-        return 19;
-    }
-    if tag == MAX_KEY {
-        return 20;
-    }
-    21
-}
-
-// How the value of a tag is sized; `Unknown` refuses a tag that is not in the table, with 7.
+// How the value of a tag is sized, by its row; where no row that is asked has the tag, `Unknown`, which is refused with 7.
+// Above 13 the rows of min key and max key alone are asked, so that the compiler makes the search for the others one jump by the tag.
 pub fn kind_of(tag: u8) -> Kind
     ensures { λ r. ⌜ said r ≡ sizedOf tag ⌝ }
 {
-    let i = row(tag);
-    if 21 <= i {
+    let rows = ROWS;
+    if DECIMAL128 < tag {
+        let min_key = rows[10];
+        if min_key.tag == tag {
+            return min_key.kind;
+        }
+        let max_key = rows[11];
+        if max_key.tag == tag {
+            return max_key.kind;
+        }
         return Kind::Unknown;
     }
-    let row = ROWS[i];
-    if row < 32 {
-        return Kind::Fixed(wide(row));
+    let mut i = 0;
+    while i < rows.len() {
+        let row = rows[i];
+        if row.tag == tag {
+            return row.kind;
+        }
+        i += 1;
     }
-    match row / 32 {
-        1 => Kind::String,
-        2 => Kind::Pointer,
-        3 => Kind::Document,
-        4 => Kind::Binary,
-        5 => Kind::Regex,
-        _ => Kind::Scope,
-    }
+    Kind::Unknown
 }

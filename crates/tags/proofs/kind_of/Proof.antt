@@ -1,71 +1,66 @@
--- `tags::kind_of` meets its contract: each way out by the rule of the table.
-use mathlib.Core.Path.{_≡_, refl}
+-- `tags::kind_of` meets its contract: above 13 by the two rows there, else the rows from i on answer for the table.
+use Prim.Native.Nat.{_-_}
+use mathlib.Core.Path.{refl}
 use native.Mathlib.Omega.{arith}
-use borrow.Author.Tests.{ne-eqb}
-use Prim.Native.Nat.{ℕ, _/_, _≤_}
-use Rattle.tags.proofs.Table.{rows, no-row, of-row, of-fixed}
 use borrow.Author.Needs.{needs}
+use lib.ListN.{length}
+use Rattle.bson.specs.Tags.{tags}
+use Rattle.tags.proofs.Table.{table, is-min-key, is-max-key, is-neither, Searched, first-row, this-row, next-row, no-row}
 use Rattle.tags.proofs.kind_of.Statement.{statement}
 use Rattle.tags.proofs.kind_of.Tie as tie
 
-not-fixed : (row : ℕ) → 32 ≤ row → row / 32 ≡ 0 → ⊥
-not-fixed row h e = omega arith
+abbrev Inv-loop : tie.InvT-loop
+Inv-loop tag rows i₀ i = Searched rows tag i
 
-returns : tie.Need-returns
-returns c = no-row _ _ (c .before .before .fits .tag .fits) (c .before .row .ensures) (c .if1 .taken)
+abbrev μ-loop : tie.MeasureT-loop
+μ-loop tag rows i₀ i = length rows - i
 
-returns-2 : tie.Need-returns-2
-unfolding rows
+returns : tie.Need-returns Inv-loop μ-loop
+returns c =
+    let d = c .before .before .before in
+    is-min-key _ (d .before .fits .tag .fits) (d .if1 .taken) (c .if2 .taken)
+
+returns-2 : tie.Need-returns-2 Inv-loop μ-loop
 returns-2 c =
-    let d = c .before .before in
-    rw (c .wide .ensures)
-    (of-fixed _ _ (d .before .before .fits .tag .fits) (d .before .row .ensures) (d .if1 .left) (c .before .if2 .taken))
+    let d = c .before .before .before in
+    let e = d .before .before .before in
+    is-max-key _ (e .before .fits .tag .fits) (e .if1 .taken) (d .if2 .left) (c .if3 .taken)
 
-returns-3 : tie.Need-returns-3
-unfolding rows
+returns-3 : tie.Need-returns-3 Inv-loop μ-loop
 returns-3 c =
-    let d = c .before .before in
-    of-row _ _ (d .before .before .fits .tag .fits) (d .before .row .ensures) (d .if1 .left) 1 (c .match .keys1)
+    let d = c .before .before .before in
+    let e = d .before .before .before in
+    is-neither _ (e .before .fits .tag .fits) (e .if1 .taken) (d .if2 .left) (c .if3 .left)
 
-returns-4 : tie.Need-returns-4
-unfolding rows
-returns-4 c =
-    let d = c .before .before in
-    of-row _ _ (d .before .before .fits .tag .fits) (d .before .row .ensures) (d .if1 .left) 2 (c .match .keys2)
+loop-holds : tie.Need-loop-holds Inv-loop μ-loop
+unfolding table tags
+loop-holds c = first-row refl (c .before .fits .tag .fits) (c .if1 .left)
 
-returns-5 : tie.Need-returns-5
-unfolding rows
-returns-5 c =
-    let d = c .before .before in
-    of-row _ _ (d .before .before .fits .tag .fits) (d .before .row .ensures) (d .if1 .left) 3 (c .match .keys3)
+returns-4 : tie.Need-returns-4 Inv-loop μ-loop
+returns-4 c = this-row (c .before .before .before .before .loop .inv) _ (omega arith) (c .if4 .taken)
 
-returns-6 : tie.Need-returns-6
-unfolding rows
-returns-6 c =
-    let d = c .before .before in
-    of-row _ _ (d .before .before .fits .tag .fits) (d .before .row .ensures) (d .if1 .left) 4 (c .match .keys4)
+loop-again : tie.Need-loop-again Inv-loop μ-loop
+loop-again c = next-row (c .before .before .before .before .loop .inv) _ (omega arith) (c .if4 .left)
 
-returns-7 : tie.Need-returns-7
-unfolding rows
-returns-7 c =
-    let d = c .before .before in
-    of-row _ _ (d .before .before .fits .tag .fits) (d .before .row .ensures) (d .if1 .left) 5 (c .match .keys5)
-
-returns-8 : tie.Need-returns-8
-unfolding rows
-returns-8 c =
-    let d = c .before .before in
-    rw (
-      ← of-row _ _ (d .before .before .fits .tag .fits) (d .before .row .ensures) (d .if1 .left) _ refl,
-      ne-eqb _ _ (not-fixed _ (c .before .if2 .left)),
-      ne-eqb _ _ (c .match .rest .0 .0 .0 .0 .1),
-      ne-eqb _ _ (c .match .rest .0 .0 .0 .1),
-      ne-eqb _ _ (c .match .rest .0 .0 .1),
-      ne-eqb _ _ (c .match .rest .0 .1),
-      ne-eqb _ _ (c .match .rest .1),
-    )
+returns-5 : tie.Need-returns-5 Inv-loop μ-loop
+returns-5 c = no-row (c .before .loop .inv) (omega arith)
 
 pub kind-of-spec : {M : Type 1} → statement M
 kind-of-spec =
     tie.close
-    (tie.spec (λ c κs. tt) returns (λ c. search needs) (λ c κs. tt) returns-2 returns-3 returns-4 returns-5 returns-6 returns-7 returns-8)
+    (tie.spec
+    Inv-loop
+    μ-loop
+    (λ c. search needs)
+    returns
+    (λ c. search needs)
+    returns-2
+    returns-3
+    loop-holds
+    (λ c. omega arith)
+    (λ c. omega arith)
+    returns-4
+    (λ c. omega arith)
+    (λ c. omega arith)
+    loop-again
+    returns-5)
