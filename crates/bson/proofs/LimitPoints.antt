@@ -14,11 +14,12 @@ use Rattle.bson.specs.ArrayKey.{goodArrayKey}
 use Rattle.bson.specs.Level.{opening}
 use Rattle.bson.specs.Check.{visit, opened, walkFor, walkUnder, checkUnder}
 use Rattle.bson.specs.Decided.{Hold}
-use Rattle.bson.specs.LimitPoints.{keyPoints, regexPoints, nestedPoints, callPoints}
+use Rattle.bson.specs.LimitPoints.{keyPoints, regexPoints, nestedPoints, callPoints, unlimitedPoints}
 
-pub limit-points-hold : Hold keyPoints × Hold regexPoints × Hold nestedPoints × Hold callPoints
+pub limit-points-hold : Hold keyPoints × Hold regexPoints × Hold nestedPoints × Hold callPoints × Hold unlimitedPoints
 unfolding le32 bytes rows utf8 zeroText cstringUnder tags rowOf lengthField fits zeroEnded stringSize documentSize scopeSize
     patternOptionsUnder regexSizeUnder framedUnder valueSizeUnder admitted elementUnder stepUnder keyAtUnder iterateFor iterateUnder text
     scopeValue content valueIn valueOf elementAtUnder readAtUnder readWithUnder partsOf partAtUnder found getUnder getBytesUnder
     getWithUnder getPartUnder goodArrayKey opening visit opened walkFor walkUnder checkUnder keyPoints regexPoints nestedPoints callPoints
-limit-points-hold = (refl, refl, refl, refl)
+    unlimitedPoints
+limit-points-hold = (refl, refl, refl, refl, refl)

@@ -5,11 +5,13 @@ use mathlib.Core.Bool.{true, false}
 use lib.ListN.{length}
 use Rattle.bson.specs.Answer.{gives, refuses}
 use Rattle.bson.specs.Bytes.{le32}
-use Rattle.bson.specs.Cstring.{unlimited, most}
-use Rattle.bson.specs.Step.{cursor, stepUnder, keyAtUnder}
-use Rattle.bson.specs.Value.{first, second, readAtUnder, readWithUnder, partAtUnder}
-use Rattle.bson.specs.Lookup.{getUnder, getBytesUnder, getWithUnder, getPartUnder}
-use Rattle.bson.specs.Check.{checkUnder}
+use Rattle.bson.specs.Cstring.{unlimited, most, cstring}
+use Rattle.bson.specs.Tags.{asRegex}
+use Rattle.bson.specs.Framing.{patternOptions, regexSize, framed, valueSize}
+use Rattle.bson.specs.Step.{cursor, stepUnder, keyAtUnder, element, step, keyAt}
+use Rattle.bson.specs.Value.{first, second, readAtUnder, readWithUnder, partAtUnder, readAt, readWith, partAt}
+use Rattle.bson.specs.Lookup.{getUnder, getBytesUnder, getWithUnder, getPartUnder, get, getBytes, getWith, getPart}
+use Rattle.bson.specs.Check.{checkUnder, check}
 use Rattle.bson.specs.Decided.{Point, given, regexOf, oneNull, nullInScope}
 
 -- ---- documents
@@ -114,4 +116,37 @@ callPoints =
     ∷ (gives (length (getBytesUnder (most 0) regexOf [])), gives 0)
     ∷ (gives (le32 (getPartUnder (most 1) regexOf [] 0x0B first)), gives 0x61)
     ∷ (gives (length (getPartUnder (most 0) regexOf [] 0x0B first)), gives 0)
+    ∷ []
+
+-- ---- without a limit
+
+abbrev pub abcd : List ℕ
+abcd = 0x61 ∷ 0x62 ∷ 0x63 ∷ 0x64 ∷ []
+
+-- a regex of pattern `abcd` and no options, and its document, under the key `abcd`
+abbrev pub longRegex : List ℕ
+longRegex = abcd ++ (0 ∷ 0 ∷ [])
+
+abbrev pub longNames : List ℕ
+longNames = 0x11 ∷ 0 ∷ 0 ∷ 0 ∷ 0x0B ∷ abcd ++ (0 ∷ longRegex ++ (0 ∷ []))
+
+-- "a claim that names no limit means none"
+unfoldable pub unlimitedPoints : List Point
+unlimitedPoints =
+    (cstring longRegex, gives 4)
+    ∷ (given (patternOptions longRegex), gives 0)
+    ∷ (regexSize longRegex, gives 6)
+    ∷ (framed asRegex longRegex, gives 6)
+    ∷ (valueSize 0x0B longRegex, gives 6)
+    ∷ (given (element longNames 4), gives 0)
+    ∷ (given (step longNames (cursor 4 false)), gives 0)
+    ∷ (gives (length (keyAt longNames (cursor 4 false))), gives 4)
+    ∷ (given (readAt longNames 4), gives 0)
+    ∷ (given (readWith longNames 4 0x0B), gives 0)
+    ∷ (gives (length (partAt longNames 4 0x0B first)), gives 4)
+    ∷ (given (get longNames abcd), gives 0)
+    ∷ (gives (length (getBytes longNames abcd)), gives 6)
+    ∷ (given (getWith longNames abcd 0x0B), gives 0)
+    ∷ (gives (length (getPart longNames abcd 0x0B first)), gives 4)
+    ∷ (check false longNames, gives 1)
     ∷ []
