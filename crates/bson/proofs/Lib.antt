@@ -3,6 +3,7 @@ pub mod Decided
 pub mod Utf8Points
 pub mod LimitPoints
 pub mod SpanPoints
+pub mod TypePoints
 pub mod Report
 pub mod ReachPoints
 pub mod GrammarPoints

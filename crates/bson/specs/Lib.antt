@@ -23,6 +23,7 @@ pub mod Decided
 pub mod Utf8Points
 pub mod LimitPoints
 pub mod SpanPoints
+pub mod TypePoints
 pub mod ReachPoints
 pub mod GrammarPoints
 pub mod WriterPoints
