@@ -4,6 +4,7 @@ pub mod Utf8Points
 pub mod LimitPoints
 pub mod SpanPoints
 pub mod TypePoints
+pub mod FramingPoints
 pub mod Report
 pub mod ReachPoints
 pub mod GrammarPoints

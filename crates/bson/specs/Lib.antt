@@ -24,6 +24,7 @@ pub mod Utf8Points
 pub mod LimitPoints
 pub mod SpanPoints
 pub mod TypePoints
+pub mod FramingPoints
 pub mod ReachPoints
 pub mod GrammarPoints
 pub mod WriterPoints
