@@ -5,6 +5,7 @@ pub mod LimitPoints
 pub mod SpanPoints
 pub mod TypePoints
 pub mod FramingPoints
+pub mod LookupPoints
 pub mod Report
 pub mod ReachPoints
 pub mod GrammarPoints

@@ -25,6 +25,7 @@ pub mod LimitPoints
 pub mod SpanPoints
 pub mod TypePoints
 pub mod FramingPoints
+pub mod LookupPoints
 pub mod ReachPoints
 pub mod GrammarPoints
 pub mod WriterPoints
