@@ -9,14 +9,12 @@ use Rattle.bson.specs.Framing.{patternOptionsUnder, regexSizeUnder, fram
 use Rattle.bson.specs.Step.{admitted, elementUnder, stepUnder, iterateFor, iterateUnder}
 use Rattle.bson.specs.Value.{bool, timestampOf, text, binaryValue, scopeValue, content, valueIn, valueOf, partsOf}
 use Rattle.bson.specs.Lookup.{found}
-use Rattle.bson.specs.Level.{opening}
-use Rattle.bson.specs.Check.{visit, opened, walkFor, walkUnder, checkUnder}
 use Rattle.bson.specs.Decided.{Hold}
-use Rattle.bson.specs.TypePoints.{typePoints, countPoints, tagPoints, signedPoints}
+use Rattle.bson.specs.TypePoints.{typePoints, tagPoints, signedPoints}
 
-pub type-points-hold : Hold typePoints × Hold countPoints × Hold tagPoints × Hold signedPoints
+pub type-points-hold : Hold typePoints × Hold tagPoints × Hold signedPoints
 unfolding le32 le64 signed i32 i64 bytes rows utf8 zeroText cstringUnder tags rowOf lengthField fits zeroEnded stringSize pointerSize
     documentSize binarySize scopeSize patternOptionsUnder regexSizeUnder framedUnder valueSizeUnder admitted elementUnder stepUnder
-    iterateFor iterateUnder bool timestampOf text binaryValue scopeValue content valueIn valueOf partsOf found opening visit opened
-    walkFor walkUnder checkUnder typePoints countPoints tagPoints signedPoints
-type-points-hold = (refl, refl, refl, refl)
+    iterateFor iterateUnder bool timestampOf text binaryValue scopeValue content valueIn valueOf partsOf found typePoints tagPoints
+    signedPoints
+type-points-hold = (refl, refl, refl)

@@ -2,7 +2,7 @@
 -- each by bytes that show it.
 use Prim.Native.Nat.{ℕ, zero, suc}
 use mathlib.Core.List.{List, [], _∷_, _++_}
-use mathlib.Core.Bool.{true, false}
+use mathlib.Core.Bool.{true}
 use lib.IntN.{ℤ, pos, negsuc}
 use Rattle.bson.specs.Answer.{Answer, gives, refuses, then}
 use Rattle.bson.specs.Bytes.{i32, i64, Part, part}
@@ -12,9 +12,7 @@ use Rattle.bson.specs.Value.{boolean, int32, int64, dateTime, double, ti
 use Rattle.bson.specs.Value.{null, undefined, minKey, maxKey, dbPointer, binary, regex, Leaf, Value, leaf, document, array}
 use Rattle.bson.specs.Value.{codeWithScope, partsOf}
 use Rattle.bson.specs.Lookup.{Found, found}
-use Rattle.bson.specs.Check.{check}
 use Rattle.bson.specs.Vectors.{elem}
-use Rattle.bson.specs.Decided.{Point}
 
 -- ---- the document
 
@@ -104,10 +102,6 @@ everyReading =
 unfoldable pub typePoints : List (List Reading × List Reading)
 typePoints = (readings everyType (elements (iterate everyType 4)), everyReading) ∷ []
 
--- its values, and one each in the document and in the scope
-unfoldable pub countPoints : List Point
-countPoints = (check false everyType, gives 24) ∷ []
-
 -- ---- the tags of the table
 
 abbrev pub tableTags : List ℕ
@@ -131,12 +125,11 @@ tagPoints = (known 256, tableTags) ∷ []
 
 -- ---- signed numbers
 
--- the greatest, whatever lies behind, the least, and -1; bytes that are not there are 0
+-- the greatest, whatever lies behind, and the least; bytes that are not there are 0
 unfoldable pub signedPoints : List (ℤ × ℤ)
 signedPoints =
     (i32 (0xFF ∷ 0xFF ∷ 0xFF ∷ 0x7F ∷ 0xFF ∷ []), pos 0x7FFF_FFFF)
     ∷ (i32 (0 ∷ 0 ∷ 0 ∷ 0x80 ∷ []), negsuc 0x7FFF_FFFF)
-    ∷ (i32 (0xFF ∷ 0xFF ∷ 0xFF ∷ 0xFF ∷ []), negsuc 0)
     ∷ (i64 (0xFF ∷ 0xFF ∷ 0xFF ∷ 0xFF ∷ 0xFF ∷ 0xFF ∷ 0xFF ∷ 0x7F ∷ []), pos 0x7FFF_FFFF_FFFF_FFFF)
     ∷ (i64 (0 ∷ 0 ∷ 0 ∷ 0 ∷ 0 ∷ 0 ∷ 0 ∷ 0x80 ∷ []), negsuc 0x7FFF_FFFF_FFFF_FFFF)
     ∷ (i32 [], pos 0)
