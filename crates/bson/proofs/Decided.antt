@@ -5,7 +5,7 @@ use mathlib.Core.List.{List}
 use mathlib.Core.Bool.{Bool, true, false, _&&_}
 use lib.ListN.{length, drop}
 use lib.Dec.{leb, eqb}
-use Rattle.bson.specs.Bytes.{le32, le64, signed, i32, i64, natural, bytes}
+use Rattle.bson.specs.Bytes.{le32, le64, signed, i32, i64, natural, declares, bytes}
 use Rattle.bson.specs.Utf8.{rows, utf8}
 use Rattle.bson.specs.Cstring.{zeroText, cstringUnder}
 use Rattle.bson.specs.Tags.{tags, rowOf}
@@ -34,10 +34,17 @@ and-false : (b : Bool) → b && false ≡ false
 and-false true = refl
 and-false false = refl
 
-negative-differs : (v : List ℕ) → natural (le32 (drop 5 v)) ≡ false → declaresData v ≡ false
-negative-differs v n =
-    ap (λ (b : Bool). leb 9 (length v) && (b && eqb (le32 (drop 5 v)) (length v - 9))) n ∙ and-false (leb 9 (length v))
+negative-differs : (v : List ℕ) (m : ℕ) → natural (le32 v) ≡ false → declares v m ≡ false
+negative-differs v m n = ap (λ (b : Bool). b && eqb (le32 v) m) n
+
+inner-differs : (v : List ℕ) → natural (le32 (drop 5 v)) ≡ false → declaresData v ≡ false
+inner-differs v n =
+    ap (λ (b : Bool). leb 9 (length v) && b) (negative-differs (drop 5 v) (length v - 9) n) ∙ and-false (leb 9 (length v))
 
 pub negative-refused : NegativeRefused
-unfolding binaryValue
-negative-refused v p t n = rw (t, negative-differs v n)
+unfolding admitted binaryValue
+negative-refused =
+    record {
+      document = λ s l n. rw (l, negative-differs s (length s) n);
+      inner = λ v p t n. rw (t, inner-differs v n);
+    }

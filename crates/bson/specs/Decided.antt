@@ -4,8 +4,9 @@ use mathlib.Core.Path.{_≡_}
 use mathlib.Core.List.{List, [], _∷_, _++_}
 use mathlib.Core.Bool.{true, false, cond}
 use lib.ListN.{length, getD, drop}
+use lib.Dec.{leb}
 use Rattle.bson.specs.Answer.{Answer, gives, refuses, then}
-use Rattle.bson.specs.Step.{cursor, step, keyAt}
+use Rattle.bson.specs.Step.{admitted, cursor, step, keyAt}
 use Rattle.bson.specs.Bytes.{le32, natural, Part}
 use Rattle.bson.specs.Value.{first, second, bool, binaryValue, valueOf, readAt, readWith, partAt}
 use Rattle.bson.specs.Vectors.{elem}
@@ -188,9 +189,10 @@ strictPoints =
 
 -- ---- what no bytes can show
 
--- data of subtype 2 whose inner length is negative: 12, also where so many bytes lie behind it as its bits say
-abbrev pub NegativeRefused : Type 0
-NegativeRefused = (v : List ℕ) (p : Part) → getD v 4 0 ≡ 2 → natural (le32 (drop 5 v)) ≡ false → binaryValue v p ≡ refuses 12 0
+-- a negative length, also where there are as many bytes as its bits say: of a document 2, inside data of subtype 2 12
+pub record NegativeRefused : Type 0 where
+  pub document : (s : List ℕ) → leb 5 (length s) ≡ true → natural (le32 s) ≡ false → admitted s ≡ refuses 2 0
+  pub inner : (v : List ℕ) (p : Part) → getD v 4 0 ≡ 2 → natural (le32 (drop 5 v)) ≡ false → binaryValue v p ≡ refuses 12 0
 
 -- ---- points that hold
 
