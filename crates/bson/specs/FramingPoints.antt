@@ -50,7 +50,9 @@ stringPoints =
 -- "a DBPointer then needs 12 more (9)"
 unfoldable pub pointerPoints : List Point
 pointerPoints =
-    (valueSize 0x0C (0 ∷ 0 ∷ 0 ∷ 0 ∷ times 13 0), refuses 8 0)
+    (valueSize 0x0C (0x01 ∷ 0 ∷ 0 ∷ []), refuses 8 0)
+    ∷ (valueSize 0x0C (0 ∷ 0 ∷ 0 ∷ 0 ∷ times 13 0), refuses 8 0)
+    ∷ (valueSize 0x0C (0xFF ∷ 0xFF ∷ 0xFF ∷ 0xFF ∷ times 13 0), refuses 8 0)
     ∷ (valueSize 0x0C (0x01 ∷ 0 ∷ 0 ∷ 0 ∷ []), refuses 9 0)
     ∷ (valueSize 0x0C (0x01 ∷ 0 ∷ 0 ∷ 0 ∷ 0x61 ∷ []), refuses 10 0)
     ∷ (valueSize 0x0C (0x01 ∷ 0 ∷ 0 ∷ 0 ∷ 0 ∷ times 11 0xAA), refuses 9 0)
@@ -123,6 +125,7 @@ codePoints =
     (code (0 ∷ 0 ∷ 0 ∷ 0 ∷ 0 ∷ 0x04 ∷ 0 ∷ 0 ∷ 0 ∷ []), refuses 12 4)
     -- the code: its length, within the value and not the document, its last byte, its text
     ∷ (code (0 ∷ 0 ∷ 0 ∷ 0 ∷ 0 ∷ 0x05 ∷ 0 ∷ 0 ∷ 0 ∷ 0 ∷ []), refuses 8 4)
+    ∷ (code (0xFF ∷ 0xFF ∷ 0xFF ∷ 0xFF ∷ 0 ∷ 0x05 ∷ 0 ∷ 0 ∷ 0 ∷ 0 ∷ []), refuses 8 4)
     ∷ (code (0x07 ∷ 0 ∷ 0 ∷ 0 ∷ 0x61 ∷ 0x61 ∷ 0x61 ∷ 0x61 ∷ 0x61 ∷ 0 ∷ []), refuses 9 4)
     ∷ (code (0x01 ∷ 0 ∷ 0 ∷ 0 ∷ 0x61 ∷ 0 ∷ 0 ∷ 0 ∷ 0 ∷ 0 ∷ []), refuses 10 4)
     ∷ (code (0x06 ∷ 0 ∷ 0 ∷ 0 ∷ 0xFF ∷ 0x61 ∷ 0x61 ∷ 0x61 ∷ 0x61 ∷ 0 ∷ []), refuses 6 4)
@@ -147,7 +150,7 @@ dataPoints =
     ∷ (dataOf 2 (0x01 ∷ 0 ∷ 0 ∷ 0 ∷ []), refuses 12 4)
     ∷ (dataOf 2 (0 ∷ 0 ∷ 0 ∷ 0 ∷ 0xAA ∷ []), refuses 12 4)
     ∷ (dataOf 2 (0x01 ∷ 0x01 ∷ 0 ∷ 0 ∷ 0xAA ∷ []), refuses 12 4)
-    -- negative
+    -- negative; where as many bytes lie behind it as its bits say, `NegativeRefused` has it
     ∷ (dataOf 2 (0xFF ∷ 0xFF ∷ 0xFF ∷ 0xFF ∷ 0xAA ∷ []), refuses 12 4)
     -- under another subtype they are any
     ∷ (dataOf 1 (0xAA ∷ []), gives 0)
@@ -186,10 +189,12 @@ ownPoints =
 
 -- ---- the cursor behind a step
 
--- "a refusal or an end sets the mark and keeps the offset"
+-- "a refusal or an end sets the mark and keeps the offset", also where the place of the refusal is 0; "an ended cursor stays ended"
 unfoldable pub cursorPoints : List (Cursor × Cursor)
 cursorPoints =
     (after (cursor 4 false) (step twoKeys (cursor 4 false)), cursor 8 false)
     ∷ (after (cursor 12 false) (step twoKeys (cursor 12 false)), cursor 12 true)
     ∷ (after (cursor 13 false) (step twoKeys (cursor 13 false)), cursor 13 true)
+    ∷ (after (cursor 4 false) (step (0x05 ∷ 0 ∷ 0 ∷ 0 ∷ []) (cursor 4 false)), cursor 4 true)
+    ∷ (after (cursor 4 true) (step twoKeys (cursor 4 true)), cursor 4 true)
     ∷ []

@@ -8,7 +8,7 @@ use Rattle.bson.specs.Bytes.{le32}
 use Rattle.bson.specs.Cstring.{unlimited, most, cstring}
 use Rattle.bson.specs.Tags.{asRegex}
 use Rattle.bson.specs.Framing.{patternOptions, regexSize, framed, valueSize}
-use Rattle.bson.specs.Step.{cursor, stepUnder, keyAtUnder, element, step, keyAt}
+use Rattle.bson.specs.Step.{cursor, stepUnder, keyAtUnder, elements, element, step, keyAt, iterate}
 use Rattle.bson.specs.Value.{first, second, readAtUnder, readWithUnder, partAtUnder, readAt, readWith, partAt}
 use Rattle.bson.specs.Lookup.{getUnder, getBytesUnder, getWithUnder, getPartUnder, get, getBytes, getWith, getPart}
 use Rattle.bson.specs.Check.{checkUnder, check}
@@ -141,6 +141,7 @@ unlimitedPoints =
     ∷ (given (element longNames 4), gives 0)
     ∷ (given (step longNames (cursor 4 false)), gives 0)
     ∷ (gives (length (keyAt longNames (cursor 4 false))), gives 4)
+    ∷ (gives (length (elements (iterate longNames 4))), gives 1)
     ∷ (given (readAt longNames 4), gives 0)
     ∷ (given (readWith longNames 4 0x0B), gives 0)
     ∷ (gives (length (partAt longNames 4 0x0B first)), gives 4)

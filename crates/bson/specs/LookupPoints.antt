@@ -59,6 +59,10 @@ damagedBehind = both (battery 42) (noted 0x6F 2)
 abbrev pub badText : List ℕ
 badText = both (noted 0xFF 16) (battery 42)
 
+-- P5: an int32 of 7 under an empty key, and behind it a step past the terminator
+abbrev pub swallowed : List ℕ
+swallowed = 0x0A ∷ 0 ∷ 0 ∷ 0 ∷ 0x10 ∷ 0 ∷ 0x07 ∷ 0 ∷ 0 ∷ 0 ∷ []
+
 -- ---- what is found
 
 -- the value found, by a lookup and by one of a type
@@ -81,6 +85,7 @@ foundPoints limit =
     ∷ (look limit damagedBefore batteryKey, refuses 10 4)
     -- "damage behind it is not seen"
     ∷ (look limit damagedBehind batteryKey, gives (leaf (int32 (pos 42))))
+    ∷ (look limit swallowed [], gives (leaf (int32 (pos 7))))
     -- the match cannot be framed, or read
     ∷ (look limit damagedBehind textKey, refuses 10 17)
     ∷ (look limit badText textKey, refuses 6 4)
@@ -108,7 +113,7 @@ damages =
     (0x05 ∷ 0 ∷ 0 ∷ 0 ∷ [], refuses 1 0)
     ∷ (0x06 ∷ 0 ∷ 0 ∷ 0 ∷ 0 ∷ [], refuses 2 0)
     ∷ (0x05 ∷ 0 ∷ 0 ∷ 0 ∷ 0x01 ∷ [], refuses 3 0)
-    ∷ (0x0A ∷ 0 ∷ 0 ∷ 0 ∷ 0x10 ∷ 0 ∷ 0x07 ∷ 0 ∷ 0 ∷ 0 ∷ [], refuses 4 10)
+    ∷ (swallowed, refuses 4 10)
     ∷ (0x07 ∷ 0 ∷ 0 ∷ 0 ∷ 0x0B ∷ 0 ∷ 0 ∷ [], refuses 5 4)
     ∷ (0x08 ∷ 0 ∷ 0 ∷ 0 ∷ 0x0A ∷ 0xFF ∷ 0 ∷ 0 ∷ [], refuses 6 4)
     ∷ (0x07 ∷ 0 ∷ 0 ∷ 0 ∷ 0x14 ∷ 0 ∷ 0 ∷ [], refuses 7 4)

@@ -87,7 +87,7 @@ pub fn offset<'a>(r: Reader<'a>) -> usize
     r.offset
 }
 
-// The step of a reader at a cursor: whoever calls this needs no walk by hand.
+// The step of a reader at a cursor: whoever calls this needs no proof by hand.
 pub fn step_at(s: &[u8], cursor: Cursor) -> Step
     ensures { λ r. ⌜ Answers r (saidCursor cursor) (step (now (s .entry)) (saidCursor cursor)) ⌝ }
 {

@@ -1,5 +1,5 @@
--- The code's table is the definition's, and asking it sizes each tag as the definition does: one test over all 256 tags (RULES.md,
--- "Admission and one step").
+-- The definition's rows as the code has them, and that asking them sizes each tag as the definition does: one test over all 256 tags
+-- (RULES.md, "Admission and one step").
 use Prim.Native.Nat.{ℕ, zero, suc, _+_, _<_, _≤_}
 use mathlib.Core.Path.{_≡_, refl, ap, subst, sym}
 use mathlib.Core.List.{List, [], _∷_, map}

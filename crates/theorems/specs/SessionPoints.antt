@@ -10,11 +10,11 @@ use Rattle.bson.specs.WriterPoints.{blank, zeroKey}
 use Rattle.theorems.specs.ReadBack.{openOf, Building, unopened, building, built, keyFor, Session, run, sessionStart}
 
 -- "begun fresh", in a buffer that has room for all
-abbrev pub after : List Call → Session
-after calls = run calls (sessionStart (blank 30))
+abbrev pub sessionOf : List Call → Session
+sessionOf calls = run calls (sessionStart (blank 30))
 
 abbrev pub made : List Call → Building
-made calls = after calls .tree
+made calls = sessionOf calls .tree
 
 abbrev pub usedBytes : Desk → List ℕ
 usedBytes d = take (used (d .state)) (d .buffer)
@@ -38,8 +38,8 @@ pub record SessionPoints : Type 0 where
   pub so-far : made (openTop ∷ append (0x61 ∷ []) null ∷ []) ≡ building (openOf document [] (nullAt (0x61 ∷ []) none)) []
   pub at-last : made (openTop ∷ append (0x61 ∷ []) null ∷ close ∷ []) ≡ built (nullAt (0x61 ∷ []) none)
   pub nested : made nestedCalls ≡ built nestedTree
-  pub nested-bytes : usedBytes (after nestedCalls .left) ≡ treeBytes nestedTree
-  -- refused calls leave all: before the top is opened, for a zero in a key, and when it is closed
+  pub nested-bytes : usedBytes (sessionOf nestedCalls .left) ≡ treeBytes nestedTree
+  -- refused calls leave the tree: before the top is opened, for a zero in a key, and when it is closed
   pub too-early : made (append [] null ∷ close ∷ []) ≡ unopened
   pub zero-in-key : made (openTop ∷ append zeroKey null ∷ close ∷ []) ≡ built none
   pub too-late : made (openTop ∷ close ∷ append [] null ∷ []) ≡ built none
