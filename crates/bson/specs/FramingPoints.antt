@@ -1,9 +1,9 @@
 -- What framing refuses, class by class, what the reading of a framed value refuses, and the cursor behind a step (RULES.md, "Admission
 -- and one step" and "Values"), each by bytes that show it.
-use Prim.Native.Nat.{ℕ, zero, suc, _+_, _-_}
+use Prim.Native.Nat.{ℕ, _+_, _-_}
 use mathlib.Core.List.{List, [], _∷_, _++_}
 use mathlib.Core.Bool.{true, false}
-use lib.ListN.{length}
+use lib.ListN.{length, replicate}
 use Rattle.bson.specs.Answer.{Answer, gives, refuses}
 use Rattle.bson.specs.Bytes.{Part, part}
 use Rattle.bson.specs.Framing.{patternOptions, valueSize}
@@ -14,16 +14,11 @@ use Rattle.bson.specs.Decided.{Point, given, twoKeys}
 
 -- ---- sizes, of the rest of the slice from the value's first byte
 
--- a byte so many times
-abbrev pub times : ℕ → ℕ → List ℕ
-times zero b = []
-times (suc n) b = b ∷ times n b
-
 -- "values of a fixed size: the value fits (9)": of each tag with its size, one byte is lacking, and none
 abbrev pub fixedEach : List (ℕ × ℕ) → List Point
 fixedEach [] = []
 fixedEach (x ∷ xs) =
-    (valueSize (x .0) (times (x .1 - 1) 1), refuses 9 0) ∷ (valueSize (x .0) (times (x .1) 1), gives (x .1)) ∷ fixedEach xs
+    (valueSize (x .0) (replicate (x .1 - 1) 1), refuses 9 0) ∷ (valueSize (x .0) (replicate (x .1) 1), gives (x .1)) ∷ fixedEach xs
 
 unfoldable pub fixedPoints : List Point
 fixedPoints =
@@ -51,12 +46,12 @@ stringPoints =
 unfoldable pub pointerPoints : List Point
 pointerPoints =
     (valueSize 0x0C (0x01 ∷ 0 ∷ 0 ∷ []), refuses 8 0)
-    ∷ (valueSize 0x0C (0 ∷ 0 ∷ 0 ∷ 0 ∷ times 13 0), refuses 8 0)
-    ∷ (valueSize 0x0C (0xFF ∷ 0xFF ∷ 0xFF ∷ 0xFF ∷ times 13 0), refuses 8 0)
+    ∷ (valueSize 0x0C (0 ∷ 0 ∷ 0 ∷ 0 ∷ replicate 13 0), refuses 8 0)
+    ∷ (valueSize 0x0C (0xFF ∷ 0xFF ∷ 0xFF ∷ 0xFF ∷ replicate 13 0), refuses 8 0)
     ∷ (valueSize 0x0C (0x01 ∷ 0 ∷ 0 ∷ 0 ∷ []), refuses 9 0)
     ∷ (valueSize 0x0C (0x01 ∷ 0 ∷ 0 ∷ 0 ∷ 0x61 ∷ []), refuses 10 0)
-    ∷ (valueSize 0x0C (0x01 ∷ 0 ∷ 0 ∷ 0 ∷ 0 ∷ times 11 0xAA), refuses 9 0)
-    ∷ (valueSize 0x0C (0x01 ∷ 0 ∷ 0 ∷ 0 ∷ 0 ∷ times 12 0xAA), gives 17)
+    ∷ (valueSize 0x0C (0x01 ∷ 0 ∷ 0 ∷ 0 ∷ 0 ∷ replicate 11 0xAA), refuses 9 0)
+    ∷ (valueSize 0x0C (0x01 ∷ 0 ∷ 0 ∷ 0 ∷ 0 ∷ replicate 12 0xAA), gives 17)
     ∷ []
 
 -- "five bytes present and n at least 5 (8), fits (9), last byte zero (10)"
@@ -162,14 +157,14 @@ textPoints =
     (given (readAt (alone 0x02 (0x02 ∷ 0 ∷ 0 ∷ 0 ∷ 0xFF ∷ 0 ∷ [])) 4), refuses 6 4)
     ∷ (given (readAt (alone 0x0D (0x02 ∷ 0 ∷ 0 ∷ 0 ∷ 0xFF ∷ 0 ∷ [])) 4), refuses 6 4)
     ∷ (given (readAt (alone 0x0E (0x02 ∷ 0 ∷ 0 ∷ 0 ∷ 0xFF ∷ 0 ∷ [])) 4), refuses 6 4)
-    ∷ (given (readAt (alone 0x0C (0x02 ∷ 0 ∷ 0 ∷ 0 ∷ 0xFF ∷ 0 ∷ times 12 0)) 4), refuses 6 4)
+    ∷ (given (readAt (alone 0x0C (0x02 ∷ 0 ∷ 0 ∷ 0 ∷ 0xFF ∷ 0 ∷ replicate 12 0)) 4), refuses 6 4)
     ∷ []
 
 -- ---- elements of the caller's own
 
 -- an element of this tag at 4, its value the so many bytes from 7 on, each 1
 abbrev pub own : ℕ → ℕ → Answer Value
-own tag n = valueOf (times 40 1) (elem 4 tag 1 n)
+own tag n = valueOf (replicate 40 1) (elem 4 tag 1 n)
 
 unfoldable pub ownPoints : List (Answer Value × Answer Value)
 ownPoints =
