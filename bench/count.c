@@ -99,11 +99,20 @@ static uint64_t read_at_place(const struct row *row)
     return top(row->length, true);
 }
 
-static uint64_t check(const struct row *row)
+static uint64_t passed(fringewell_verdict verdict)
 {
-    fringewell_verdict verdict = fringewell_check(document, row->length);
     need(verdict.number == FRINGEWELL_OK, "the document passes");
     return verdict.count;
+}
+
+static uint64_t check(const struct row *row)
+{
+    return passed(fringewell_check(document, row->length));
+}
+
+static uint64_t check_strict(const struct row *row)
+{
+    return passed(fringewell_check_strict(document, row->length));
 }
 
 // what a value found holds, of the types that the rows look up
@@ -229,7 +238,8 @@ static const struct {
     const char *name;
     uint64_t (*turn)(const struct row *row);
 } tasks[] = {
-    {"iterate", iterate}, {"read_at_place", read_at_place}, {"check", check}, {"lookup", lookup}, {"build", build}, {"build_tested", build},
+    {"iterate", iterate}, {"read_at_place", read_at_place}, {"check", check}, {"check_strict", check_strict}, {"lookup", lookup},
+    {"build", build},     {"build_tested", build},
 };
 
 static void prepare(struct row *row, const char *task, const char *path, const char *key)

@@ -95,12 +95,15 @@ def rows():
         Row("iterate", "beacon", "", "beacon: iterate and read"),
         Row("read_at_place", "beacon", "", "beacon: read at each place"),
         Row("check", "beacon", "", "beacon: whole check"),
+        Row("check_strict", "beacon", "", "beacon: strict check"),
         Row("lookup", "beacon", keys[0], "beacon: lookup, first key"),
         Row("lookup", "beacon", middle, "beacon: lookup, middle key"),
         Row("lookup", "beacon", keys[-1], "beacon: lookup, last key"),
         Row("build", "writable", "", "beacon: build, from bytes"),
         Row("build_tested", "writable", "", "beacon: build, Rust's texts tested"),
         Row("build", "numbers", "", f"array of {NUMBERS} numbers: build"),
+        Row("check", "numbers", "", f"array of {NUMBERS} numbers: whole check"),
+        Row("check_strict", "numbers", "", f"array of {NUMBERS} numbers: strict check"),
         Row("iterate", "many", "", "3,000 elements: iterate and read"),
         Row("read_at_place", "many", "", "3,000 elements: read at each place"),
         Row("check", "many", "", "3,000 elements: whole check"),
@@ -122,6 +125,7 @@ def notes():
 3,000 elements: {len(elements(3000))} bytes of int32, double, string and int64. 200 levels: one document in the other.
 iterate and read: every step and every value of the top; in it and in lookups libbson tests no UTF-8.
 read at each place: the same, but Fringewell reads by fringewell_read, which steps to the element a second time.
+strict check: only Fringewell asks for the keys of arrays; the others check as in the row before.
 build: without the beacon's code with scope, which the writer does not write. Fringewell tests each key and
 text, and makes the keys of arrays; the Rust tests those that come as bytes, and has none to test where they
 were tested before; libbson tests none.

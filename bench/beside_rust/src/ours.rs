@@ -66,6 +66,7 @@ const _: () = {
 
 extern "C" {
     fn fringewell_check(document: *const u8, length: usize) -> Verdict;
+    fn fringewell_check_strict(document: *const u8, length: usize) -> Verdict;
     fn fringewell_lookup(document: *const u8, length: usize, key: *const u8, n: usize) -> Found;
     fn fringewell_step(document: *const u8, length: usize, offset: usize, ended: bool) -> Stepped;
     fn fringewell_read(document: *const u8, length: usize, place: usize) -> Read;
@@ -135,9 +136,11 @@ impl Side for Ours {
     }
 
     fn check(&mut self, document: &[u8]) -> u64 {
-        let verdict = unsafe { fringewell_check(document.as_ptr(), document.len()) };
-        assert_eq!(verdict.number, 0);
-        verdict.count
+        passed(unsafe { fringewell_check(document.as_ptr(), document.len()) })
+    }
+
+    fn check_strict(&mut self, document: &[u8]) -> u64 {
+        passed(unsafe { fringewell_check_strict(document.as_ptr(), document.len()) })
     }
 
     fn lookup(&mut self, document: &[u8], key: &str) -> u64 {
@@ -160,6 +163,12 @@ impl Side for Ours {
     fn built(&self) -> &[u8] {
         &self.buffer[..self.used]
     }
+}
+
+/// The values counted, of a document that must pass.
+fn passed(verdict: Verdict) -> u64 {
+    assert_eq!(verdict.number, 0);
+    verdict.count
 }
 
 /// Every step and every value of the top, read in this way.

@@ -16,6 +16,7 @@ pub enum Task<'a> {
     Iterate(&'a [u8]),
     ReadAtPlace(&'a [u8]),
     Check(&'a [u8]),
+    CheckStrict(&'a [u8]),
     Lookup(&'a [u8], &'a str),
     Build(Vec<Piece<'a>>, Given),
 }
@@ -36,6 +37,9 @@ impl<S: Side> Runner for S {
                 repeated(turns, || self.read_at_place(black_box(document)))
             }
             Task::Check(document) => repeated(turns, || self.check(black_box(document))),
+            Task::CheckStrict(document) => {
+                repeated(turns, || self.check_strict(black_box(document)))
+            }
             Task::Lookup(document, key) => {
                 repeated(turns, || self.lookup(black_box(document), black_box(key)))
             }
@@ -123,7 +127,9 @@ impl<'a> Row<'a> {
     fn agree(&self, sides: &[Box<dyn Runner>]) {
         let answers: Vec<u64> = self.lanes.iter().map(|lane| lane.answer).collect();
         let same = match (&self.task, &answers[..]) {
-            (Task::Check(_), [rust, ours, libbson]) => rust == ours && *libbson == 1,
+            (Task::Check(_) | Task::CheckStrict(_), [rust, ours, libbson]) => {
+                rust == ours && *libbson == 1
+            }
             (Task::Build(..), _) => sides.iter().all(|side| side.built() == sides[0].built()),
             _ => answers.iter().all(|answer| *answer == answers[0]),
         };

@@ -68,6 +68,7 @@ fn task_of<'a>(task: &str, document: &'a [u8], key: &'a str) -> Task<'a> {
         "iterate" => Task::Iterate(document),
         "read_at_place" => Task::ReadAtPlace(document),
         "check" => Task::Check(document),
+        "check_strict" => Task::CheckStrict(document),
         "lookup" => Task::Lookup(document, key),
         "build" => built(Given::Bytes),
         "build_tested" => built(Given::Tested),

@@ -16,6 +16,11 @@ pub trait Side {
     /// The whole check: the number of values, or 1 from libbson, which does not count.
     fn check(&mut self, document: &[u8]) -> u64;
 
+    /// The strict check, which asks for the keys of arrays besides; only this library has one.
+    fn check_strict(&mut self, document: &[u8]) -> u64 {
+        self.check(document)
+    }
+
     /// The first element of the key: its tag and what its value holds.
     fn lookup(&mut self, document: &[u8], key: &str) -> u64;
 
