@@ -1,8 +1,8 @@
 -- Equal bytes, byte by byte, and the bytes of a part.
-use Prim.Native.Nat.{ℕ, suc, _+_, _-_, _<_, _≤_}
+use Prim.Native.Nat.{ℕ, zero, suc, _+_, _-_, _<_, _≤_}
 use mathlib.Core.Path.{_≡_, refl, ap, sym, _∙_}
 use mathlib.Core.List.{List, [], _∷_, _++_}
-use mathlib.Core.Bool.{true, false, true≢false}
+use mathlib.Core.Bool.{Bool, true, false, true≢false, _&&_, and-false}
 use native.Mathlib.Numerals.{add-one}
 use native.Mathlib.Omega.{arith}
 use lib.ListN.{length, getD, take, drop, drop-of-length-le, length-take, length-drop}
@@ -10,7 +10,7 @@ use lib.Seq.{drop-cons, length-take-le, take-take, take-add, drop-at, drop-drop}
 use lib.Dec.{eqb}
 use borrow.Author.Tests.{eq-eqb, ne-eqb, eqb-true}
 use Rattle.bson.specs.Bytes.{Part, part, bytes, trim, same}
-use Rattle.laws.proofs.Common.{split}
+use Rattle.laws.proofs.Common.{split, and-swap}
 
 -- ---- equal texts
 
@@ -42,6 +42,25 @@ module _ (a b : List ℕ) (i : ℕ) (p : i < length a) (q : i < length b) where
 
 pub same-end : (a b : List ℕ) (i : ℕ) → length a ≤ i → length b ≤ i → same (drop i a) (drop i b) ≡ true
 same-end a b i p q = rw (drop-of-length-le a p, drop-of-length-le b q)
+
+-- the last byte decides, and then those before it
+module _ (b : ℕ) where
+  none-same : (front : List ℕ) → same [] (front ++ (b ∷ [])) ≡ false
+  none-same [] = refl
+  none-same (c ∷ front) = refl
+
+  pub same-last : (key front : List ℕ) (last : ℕ) → length key ≡ suc last
+      → same key (front ++ (b ∷ [])) ≡ eqb (getD key last 0) b && same (take last key) front
+  same-last [] front last l = absurd (omega arith)
+  same-last (a ∷ []) front (suc last) l = absurd (omega arith)
+  same-last (a ∷ c ∷ key) front zero l = absurd (omega arith)
+  same-last (a ∷ []) [] zero l = refl
+  same-last (a ∷ []) (d ∷ front) zero l =
+      ap (λ (x : Bool). eqb a d && x) (none-same front) ∙ and-false (eqb a d) ∙ sym (and-false (eqb a b))
+  same-last (a ∷ c ∷ key) [] (suc last) l = and-false (eqb a b) ∙ sym (and-false (eqb (getD (c ∷ key) last 0) b))
+  same-last (a ∷ c ∷ key) (d ∷ front) (suc last) l =
+      ap (λ (x : Bool). eqb a d && x) (same-last (c ∷ key) front last (omega arith))
+      ∙ and-swap (eqb a d) (eqb (getD (c ∷ key) last 0) b) (same (take last (c ∷ key)) front)
 
 -- ---- parts
 

@@ -5,7 +5,7 @@ use mathlib.Core.Path.{_≡_, refl, ap, _∙_}
 use mathlib.Core.List.{List, [], _∷_, _++_}
 use mathlib.Core.Bool.{true}
 use native.Mathlib.Nat.{div-lt-self, div-lt-iff-lt-mul, le-div-iff-mul-le, mul-assoc, one-le-pow, pow-suc}
-use native.Mathlib.Numerals.{add-one}
+use native.Mathlib.Numerals.{add-one, one-add}
 use native.Mathlib.Omega.{arith}
 use lib.Dec.{ltb}
 use lib.ListN.{length, length-append}
@@ -84,6 +84,15 @@ length-digits (suc k) n = simp (length-append, length-digits k (n / 10)) (add-on
 pub length-decimal : (n : ℕ) → length (decimal n) ≡ width n
 unfolding decimal
 length-decimal n = length-digits (width n) n
+
+-- one digit, or the last digit behind those of a tenth
+pub decimal-digit : (n : ℕ) → n < 10 → decimal n ≡ (48 + n) ∷ []
+unfolding decimal digits
+decimal-digit n h = let e : n % 10 ≡ n = omega arith in rw (width-digit n h, e)
+
+pub decimal-last : (n : ℕ) → 10 ≤ n → decimal n ≡ decimal (n / 10) ++ ((48 + n % 10) ∷ [])
+unfolding decimal digits
+decimal-last n h = ap (λ (k : ℕ). digits k n) (width-eq n h ∙ one-add (width (n / 10)))
 
 -- ten times a number, and a rest
 tens : (k d r : ℕ) → d * 10 ^ suc k + r ≡ 10 * (d * 10 ^ k) + r
