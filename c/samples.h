@@ -4,6 +4,8 @@
 
 #include <stdint.h>
 #include <stddef.h>
+#include <stdio.h>
+#include <string.h>
 
 /* One element of each of the twenty-one types, keys a to u. In front of each line: the offset of its tag. */
 static const uint8_t every_type[221] = {
@@ -75,6 +77,24 @@ static inline size_t nest_scopes(uint8_t *out, size_t levels) {
         put32(out + 15 * level + 6, whole - 16 * (level + 1) + 9);
     }
     return whole;
+}
+
+/* An array of nulls under an empty key: their keys are 0, 1, 2 on, as the C library writes them, but for that of number `other`, if there
+ * is one. The first null lies at 10, and each has two bytes besides its key. Returns the length. */
+static inline size_t nulls(uint8_t *out, size_t count, size_t other, const char *key) {
+    static const uint8_t front[6] = {0x04, 0, 0, 0, 0, 0};
+    size_t at = put(out, 4, front, sizeof front);
+    for (size_t i = 0; i < count; i++) {
+        char position[21];
+        snprintf(position, sizeof position, "%zu", i);
+        const char *text = i == other ? key : position;
+        out[at++] = 0x0A;
+        at = put(out, at, (const uint8_t *)text, strlen(text) + 1);
+    }
+    out[at] = out[at + 1] = 0;
+    put32(out + 6, at + 1 - 6);
+    put32(out, at + 2);
+    return at + 2;
 }
 
 #endif

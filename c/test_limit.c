@@ -147,6 +147,7 @@ static void inside(void) {
 
 /* The step comes before the array's key, and this before the reading. */
 static void strict(void) {
+    static uint8_t eleven[64];
     static const uint8_t regex[19] = {19, 0, 0, 0, 0x04, 0, 12, 0, 0, 0, 0x0B, '/', 0, 'a', 'b', 0, 0, 0, 0};
     EXPECT_VERDICT(fringewell_check_strict_under(array, sizeof array, 1), FRINGEWELL_TOO_LONG, 10, 0);
     EXPECT_VERDICT(fringewell_check_strict_under(array, sizeof array, 2), FRINGEWELL_BAD_ARRAY_KEY, 10, 0);
@@ -155,6 +156,16 @@ static void strict(void) {
     /* an empty key, and a boolean of 2 */
     EXPECT_VERDICT(fringewell_check_strict_under(BYTES(15, 0, 0, 0, 0x04, 0, 8, 0, 0, 0, 0x08, 0, 2, 0, 0), 0), FRINGEWELL_BAD_ARRAY_KEY,
                    10, 0);
+    /* keys 0 to 10: the last, of two bytes, lies at 40, and 9 at 37 */
+    EXPECT_EQUAL(nulls(eleven, 11, 11, NULL), 46);
+    EXPECT_VERDICT(fringewell_check_strict_under(eleven, 46, 0), FRINGEWELL_TOO_LONG, 10, 0);
+    EXPECT_VERDICT(fringewell_check_strict_under(eleven, 46, 1), FRINGEWELL_TOO_LONG, 40, 0);
+    EXPECT_VERDICT(fringewell_check_strict_under(eleven, 46, 2), 0, 0, 12);
+    EXPECT_EQUAL(nulls(eleven, 11, 9, "8"), 46);
+    EXPECT_VERDICT(fringewell_check_strict_under(eleven, 46, 1), FRINGEWELL_BAD_ARRAY_KEY, 37, 0);
+    EXPECT_EQUAL(nulls(eleven, 11, 9, "09"), 47);
+    EXPECT_VERDICT(fringewell_check_strict_under(eleven, 47, 1), FRINGEWELL_TOO_LONG, 37, 0);
+    EXPECT_VERDICT(fringewell_check_strict_under(eleven, 47, 2), FRINGEWELL_BAD_ARRAY_KEY, 37, 0);
 }
 
 /* A null `ab` in the innermost of documents under empty keys: in document 200 it has depth 200, in the next one it is too deep, which

@@ -108,15 +108,18 @@ static void try_all(const char *name, const uint8_t *document, size_t length) {
     printf(" bytes\n");
 }
 
-/* 201 documents or arrays inside the top, or 101 scopes; and in the innermost of 201 documents what takes the longest way through its
- * texts, and is read before it is found too deep: a regex, a code with scope. */
+/* 201 documents or arrays inside the top, or 101 scopes; in the innermost of 200 arrays nulls under keys of up to four digits; and in the
+ * innermost of 201 documents what takes the longest way through its texts, and is read before it is found too deep: a regex, a code with
+ * scope. */
 int main(void) {
-    static uint8_t deep[4096];
+    static uint8_t deep[8192], array[8192];
+    size_t array_length = nulls(array, 1001, 1001, NULL);
     make_stack();
     EXPECT(stack != MAP_FAILED && view != MAP_FAILED);
     if (failed == 0) {
         try_all("documents", deep, nest(deep, 201, BYTES(0x03, 0), NOTHING));
         try_all("arrays", deep, nest(deep, 201, BYTES(0x04, '0', 0), NOTHING));
+        try_all("keys", deep, nest(deep, 200, BYTES(0x04, '0', 0), array + 10, array_length - 12));
         try_all("scopes", deep, nest_scopes(deep, 101));
         try_all("regex", deep, nest(deep, 201, BYTES(0x03, 0), BYTES(0x0B, 0xC3, 0xA9, 0, 0xC3, 0xA9, 0, 0xC3, 0xA9, 0)));
         try_all("code", deep, nest(deep, 201, BYTES(0x03, 0), BYTES(0x0F, 0, 16, 0, 0, 0, 3, 0, 0, 0, 0xC3, 0xA9, 0, 5, 0, 0, 0, 0)));

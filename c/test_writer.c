@@ -151,6 +151,7 @@ static void array_keys(void) {
     fringewell_writer_close(DESK(46));
     EXPECT_WRITTEN(fringewell_writer_close(DESK(46)), 0, 46);
     EXPECT_BYTES(keyed);
+    EXPECT_VERDICT(fringewell_check_strict(out, 46), 0, 0, 12);
 }
 
 /* Subtype 2 gets its inner length, also of no data; a text may hold a zero; a regex may be empty. */

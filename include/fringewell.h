@@ -60,7 +60,7 @@ enum {
     FRINGEWELL_ABSENT = 16,         /* key absent, or place is the terminator */
     FRINGEWELL_OTHER_TYPE = 17,     /* value of another type than asked */
     FRINGEWELL_OUT_OF_TURN = 18,    /* writer call or writer state out of turn */
-    FRINGEWELL_BAD_ARRAY_KEY = 19,  /* strict check: bad array key */
+    FRINGEWELL_BAD_ARRAY_KEY = 19,  /* strict check: key of an array that is not its position in decimal */
     FRINGEWELL_INPUT_TOO_LONG = 20, /* programs: input over 65,535 bytes; no call of this library gives it */
     FRINGEWELL_TOO_LONG = 22        /* key, pattern or options longer than the limit, or without a zero byte under one */
 };
@@ -158,7 +158,9 @@ fringewell_verdict fringewell_check(const uint8_t *document, size_t length);
  * those calls under the same limit; and it passes without one, with the same count. */
 fringewell_verdict fringewell_check_under(const uint8_t *document, size_t length, size_t limit);
 
-/* The whole check, and every key of an array is one or more decimal digits: else 19, before its value is read. */
+/* The whole check, and each key of an array, at every level, is exactly the element's position in it in decimal: 0, 1, 2 on, without
+ * leading zeros. Else 19, at the first element whose key is another, once a step has given it and before its value is read. The keys of
+ * documents and scopes may be any. Refused by 1 to 13 and 19. */
 fringewell_verdict fringewell_check_strict(const uint8_t *document, size_t length);
 
 /* The strict check under a limit. Refused by 1 to 4, 6 to 13, 19 and 22; at one element by 22 before 19. */

@@ -18,7 +18,8 @@ ROOT = Path(__file__).resolve().parents[2]
 sys.path.insert(0, str(ROOT / "tools"))
 from rules import documents as making
 from rules import rules, writing
-from rules.documents import NULL, SCOPE, bytes_to_try, doc, element, keyed, limited, nested, scope_below, settled
+from rules.documents import ARRAY, NULL, SCOPE, bytes_to_try, doc, element, in_a_scope, in_an_array, keyed, limited, nested, nulls, positions
+from rules.documents import scope_below, settled
 from rules.questions import all_questions
 from rules.rules import Refused
 
@@ -182,6 +183,33 @@ def try_documents(lines, possible):
     assert tags == {*rules.FIXED, *rules.FRAMED}, tags
 
 
+# the keys of an array, and the place of the first that is not its position: its first element lies at 11, and each has two bytes besides its key
+ARRAY_KEYS = [
+    ([], None), (["0"], None), (["0", "1"], None), (positions(11), None), (positions(101), None),
+    ([""], 11), (["a"], 11), (["1a"], 11), (["00"], 11), (["01"], 11), (["+0"], 11), (["1"], 11), (["7"], 11),
+    (["0", "0"], 14), (["0", "01"], 14), (["0", "0", "7"], 14), (["0", "1", "3"], 17),
+    ([*positions(9), "09", "10"], 38), ([*positions(9), "10", "10"], 38), ([*positions(10), "1"], 41), ([*positions(10), ":"], 41),
+    ([*positions(99), "100", "100"], 397), ([*positions(99), "9", "100"], 397),
+    ([*positions(100), "10"], 401), ([*positions(100), "1000"], 401),
+]
+
+
+def stated_keys():
+    """Of arrays: a document, and what its plain and its strict check must say. Under keys of one byte the element of depth k lies at 4 + 7 k."""
+    for keys, bad in ARRAY_KEYS:
+        count = str(1 + len(keys))
+        yield keyed(*keys), count, f"19 at {bad}" if bad else count
+    for key, strict in (("0", "13 at 1411"), ("1", "19 at 1411")):
+        yield nested(201, ARRAY, "0", doc(element(NULL, key))), "13 at 1411", strict
+    for key, strict in (("0", "11 at 11"), ("1", "19 at 11")):
+        yield in_an_array(element(0x08, key, b"\2")), "11 at 11", strict
+    yield in_an_array(element(0x14, "1")), "7 at 11", "7 at 11"
+    for keys, strict in ((["0", "1"], "6"), (["1", "2"], "19 at 21")):
+        yield in_an_array(element(NULL, "0"), element(ARRAY, "1", nulls(*keys)), element(NULL, "2")), "6", strict
+    for key, strict in (("0", "4"), ("1", "19 at 34")):
+        yield in_a_scope(nulls(key)), "4", strict
+
+
 def stated():
     """By name a document and its limit, and what its plain and its strict check must say by the rules' text, worked out by hand.
 
@@ -192,8 +220,8 @@ def stated():
     for depth, empty, holding in ((198, "199", "200"), (199, "200", "13 at 1213"), (200, "201", "13 at 1219"), (201, "13 at 1210", "13 at 1210")):
         yield f"empty scope at {depth}", scope_below(depth, doc()), None, empty, empty
         yield f"scope at {depth}", scope_below(depth, doc(element(NULL, ""))), None, holding, holding
-    for key, strict in (("", "19 at 11"), ("a", "19 at 11"), ("1a", "19 at 11"), ("01", "2"), ("7", "2"), ("0", "2")):
-        yield f"array keyed {key}", keyed(key), None, "2", strict
+    for d, plain, strict in stated_keys():
+        yield d.hex(), d, None, plain, strict
     for limit, d, plain, strict in settled():
         yield f"{d.hex()} under {limit}", d, limit, plain, strict
 
@@ -286,13 +314,17 @@ def read_back(d, e):
 
 
 def try_written():
-    """Every type but code with scope has a call; each is read back as it was written; what 202 open leave is what RULES.md says."""
+    """Every type but code with scope has a call; each is read back as it was written; what 202 open leave is what RULES.md says; and what calls alone
+    close passes the strict check."""
     tags = {tag for tag, _ in (writing.VALUES | writing.NESTS).values()}
     assert tags == {*rules.FIXED, *rules.FRAMED} - {SCOPE}, tags
     d = closed(*writing.every_type())
     for e, (word, fields) in zip(rules.elements(d), writing.FIELDS.items()):
         assert (e.key, *read_back(d, e)) == (word.encode(), word, *fields), word
     assert closed(*writing.DEEPEST, *["close"] * 202) == nested(201)
+    for line in writing.sessions():
+        d = writing.replayed(line)[1].closed()
+        assert "; word " in line or not d or rules.check(d, True) == rules.check(d), line
 
 
 def files(lines):

@@ -388,24 +388,93 @@ def lookups():
         yield doc(element(0x02, "note", le(n) + b"ok\0" + full + b"\0"), BATTERY), gets("battery") + typed("battery", INT32)
 
 
+# ---- array keys for the strict check
+
+
+def nulls(*keys):
+    return doc(*(element(NULL, key) for key in keys))
+
+
+def in_an_array(*elements):
+    return doc(element(ARRAY, "a", doc(*elements)))
+
+
 def keyed(*keys):
-    """An array `a` of nulls under these keys."""
-    return doc(element(ARRAY, "a", doc(*(element(NULL, key) for key in keys))))
+    """An array of nulls under these keys."""
+    return doc(element(ARRAY, "a", nulls(*keys)))
+
+
+def in_a_scope(array):
+    """An array in a scope in an array."""
+    return doc(element(ARRAY, "x", doc(element(SCOPE, "0", with_scope("", doc(element(ARRAY, "s", array)))))))
+
+
+def positions(n):
+    """The keys of a good array of n elements."""
+    return [str(i) for i in range(n)]
+
+
+def nearly(i):
+    """Not quite i: the numbers beside it, one digit more or less at either end, a zero in front, the byte behind 9 for the last digit and for all."""
+    right = str(i)
+    return [str(i + 1), str(i - 1), "0" + right, "1" + right, right + "0", right[1:], right[:-1], right[:-1] + ":", ":"]
+
+
+def long_arrays():
+    """Keys of up to three digits, all good, and one of them nearly so."""
+    for n, places in ((11, (9, 10)), (101, (9, 10, 99, 100))):
+        keys = positions(n)
+        yield keyed(*keys), gets("", "a")
+        for i in places:
+            for key in nearly(i):
+                yield keyed(*keys[:i], key, *keys[i + 1 :]), []
 
 
 def array_keys():
-    """Array keys for the strict check, at the top of an array and below."""
-    digits = [["0"], ["0", "1"], ["9", "7"], ["00"], ["0", "0"], ["4294967296"]]
-    others = [[""], ["/"], [":"], ["a"], ["1a"], ["-1"], ["+1"], [" 1"], ["٣"], ["0", "x"], ["xxx", "0"]]
-    for keys in digits + others:
-        array = doc(*(element(NULL, key) for key in keys))
+    """At the top of an array and below."""
+    good = [["0"], ["0", "1"], positions(11)]
+    digits = [["1"], ["9", "7"], ["00"], ["0", "0"], ["0", "01"], ["0", "2"], ["0", "0", "7"], ["0", "1", "3"], ["4294967296"], [str(2**64)]]
+    others = [[""], ["/"], [":"], ["a"], ["1a"], ["-1"], ["+0"], ["+1"], [" 1"], ["0 "], ["٠"], ["٣"], ["0", "x"], ["xxx", "0"]]
+    for keys in good + digits + others:
+        array = nulls(*keys)
         yield keyed(*keys), gets("a")
         yield doc(element(DOCUMENT, "a", array), element(ARRAY, "x", doc(element(DOCUMENT, "0", array)))), gets("a")
         yield doc(element(ARRAY, "x", doc(element(ARRAY, "0", array), element(0x08, "y", b"\2")))), gets("a")
-        yield doc(element(ARRAY, "x", doc(element(SCOPE, "0", with_scope("", doc(element(ARRAY, "s", array))))))), gets("a")
+        yield in_a_scope(array), gets("a")
         yield array, gets(*keys)
-    yield doc(element(ARRAY, "a", doc(element(0x08, "x", b"\2")))), gets("a")
-    yield doc(element(ARRAY, "a", doc(element(0x08, "0", b"\2")))), gets("a")
+
+
+def array_levels():
+    """Positions begin anew in each array and go on behind what lies in it, whatever its type; in documents and scopes any keys are good."""
+    for keys in ([], ["0", "1"], ["1", "2"], ["2"], ["x", ""]):
+        inner = nulls(*keys)
+        for tag, value in ((ARRAY, inner), (DOCUMENT, inner), (SCOPE, with_scope("", inner))):
+            for behind in ("2", "1", "4"):
+                yield in_an_array(element(NULL, "0"), element(tag, "1", value), element(NULL, behind)), []
+        yield doc(element(ARRAY, "a", nulls("0")), element(ARRAY, "b", inner)), []
+    for tag, value in SAMPLED:
+        for behind in ("1", "0"):
+            yield in_an_array(element(tag, "0", value), element(NULL, behind)), []
+
+
+# damage of each kind: four that the step refuses, and three that the reading does
+DAMAGES = [(0x14, b""), (0x02, le(0)), (0x02, le(99)), (0x02, le(1) + b"x"), (0x08, b"\2"), (0x02, text(b"\xff")), (SCOPE, le(3))]
+
+
+def array_orders():
+    """A key that is good or bad, of a damaged element: at the top of an array, behind another and, of some, around depth 200."""
+    for tag, value in [*DAMAGES, (0x0B, b"p"), (0x05, le(1) + b"\2x")]:
+        for key in ("0", "1", "x", b"\xff"):
+            bad = element(tag, key, value)
+            yield in_an_array(bad), gets("a")
+            yield in_an_array(element(NULL, "0"), bad), gets("a")
+    for tag, value in ((NULL, b""), (0x08, b"\2"), (0x14, b"")):
+        for key in ("0", "1"):
+            for k in (200, 201):
+                yield nested(k, ARRAY, "0", doc(element(tag, key, value))), []
+
+
+ARRAYS = (long_arrays, array_keys, array_levels, array_orders)
 
 
 # ---- a beacon frame, battery first
@@ -477,7 +546,7 @@ def randoms():
 
 GROUPS = (
     tried, good_values, booleans, admissions, lengths, cuts, changed, zeros, tags, fixed_ends,
-    texts, codes_with_scope, nesting, inner_damage, lookups, array_keys, beacons, randoms,
+    texts, codes_with_scope, nesting, inner_damage, lookups, *ARRAYS, beacons, randoms,
 )
 
 
@@ -615,8 +684,9 @@ def nested_limits():
 
 
 def array_limits():
-    """Array keys to the strict check: too long, no digits, and both, before values that are not read."""
-    for keys in (["0", "10"], ["0", "ab"], ["x", "ab"], ["ab", "x"], ["10", "x"], ["", "0"]):
+    """Array keys to the strict check: too long, not their position, and both, before values that are not read."""
+    short = [["0", "1"], ["0", "10"], ["0", "01"], ["0", "ab"], ["x", "ab"], ["ab", "x"], ["10", "x"], ["", "0"]]
+    for keys in [*short, positions(11), [*positions(9), "10", "9"], [*positions(10), "11"]]:
         array = doc(*(element(0x08, key, bytes([2 * (key == "x")])) for key in keys))
         for limit in (0, 1, 2):
             yield limit, doc(element(ARRAY, "", array), element(NULL, "")), gets("")
@@ -624,8 +694,7 @@ def array_limits():
 
 def damage_limits():
     """A key too long before and behind damage of each kind, and of the damaged element itself."""
-    damages = [(0x14, b""), (0x02, le(0)), (0x02, le(99)), (0x02, le(1) + b"x"), (0x08, b"\2"), (0x02, text(b"\xff")), (SCOPE, le(3))]
-    for tag, value in damages:
+    for tag, value in DAMAGES:
         for parts in ([element(tag, "x", value), BATTERY], [BATTERY, element(tag, "x", value)], [element(tag, "battery", value)]):
             for limit in (6, 7):
                 yield limit, doc(*parts), gets("battery", "x", "absent") + typed("battery", INT32, 0x02)

@@ -296,9 +296,14 @@ def is_empty(s):
 OPENS = {"document": 1, "array": 1, "codewithscope": 2}
 
 
-def visit(s, e, depth, array, strict):
-    """An element's value, where its key (strict, in an array), its value and its depth pass."""
-    unless(not (strict and array) or e.key.isdigit(), 19, e.place)
+def is_array_key(key, position):
+    """Whether it is the position in decimal, without leading zeros."""
+    return key == b"%d" % position
+
+
+def visit(s, e, depth, position):
+    """An element's value, where its key, its value and its depth pass; a key that is not asked for has no position."""
+    unless(position is None or is_array_key(e.key, position), 19, e.place)
     value = value_of(s, e)
     unless(depth <= 200, 13, e.place)
     return value
@@ -313,10 +318,10 @@ def inside(s, offset, size, *level):
 
 
 def walk(s, depth, array, strict, limit):
-    """How many values there are in a document and below it."""
+    """How many values there are in a document and below it. The strict check asks for the keys of arrays."""
     count = 0
-    for e in elements(s, limit):
-        word, *numbers = visit(s, e, depth, array, strict)
+    for position, e in enumerate(elements(s, limit)):
+        word, *numbers = visit(s, e, depth, position if strict and array else None)
         count += 1
         if word in OPENS:
             offset, size = numbers[-2:]

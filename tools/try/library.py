@@ -21,7 +21,7 @@ import struct
 import subprocess
 import sys
 from array import array
-from itertools import accumulate, chain, islice, product, repeat
+from itertools import accumulate, chain, count, islice, product, repeat
 from pathlib import Path
 from tempfile import TemporaryDirectory
 from unittest.mock import patch
@@ -30,8 +30,8 @@ ROOT = Path(__file__).resolve().parents[2]
 sys.path.insert(0, str(ROOT / "tools"))
 from make.cases import NUMBERS, RETURNED, documents, under_limit
 from rules import joining, rules, writing
-from rules.documents import FIELDS, ID, OLD_BINARY, ROWS, SAMPLES, Dice, around, bytes_to_try, doc, element, gets, keyed, le, limited, resized
-from rules.documents import row_texts, short_beacon, text
+from rules.documents import ARRAYS, FIELDS, ID, OLD_BINARY, ROWS, SAMPLES, Dice, around, array_limits, bytes_to_try, doc, element, gets, keyed, le
+from rules.documents import limited, resized, row_texts, short_beacon, text
 from rules.rules import Refused
 from rules.writing import hexed, replayed, session
 
@@ -765,6 +765,43 @@ def below_unlimited(*level, right=rules.inside):
     return right(*level[:-1], None)
 
 
+def other_key(wrong, right=rules.is_array_key):
+    """Another rule for a key of an array, by the key, its position and the rule."""
+    return patch.object(rules, "is_array_key", lambda key, position: wrong(key, position, right))
+
+
+def never_anew(s, strict=False, limit=None, right=rules.check):
+    """One count for the keys of all arrays."""
+    positions = count()
+    with other_key(lambda key, _, right: right(key, next(positions))):
+        return right(s, strict, limit)
+
+
+def from_outer(s, e, depth, position, held={}, right=rules.visit):
+    """Positions that begin with that of the array around."""
+    held[depth] = position
+    return right(s, e, depth, None if position is None else position + (held.get(depth - 1) or 0))
+
+
+def keys_asked(least, right=rules.walk):
+    """Keys asked for in every document whose values have this depth or more."""
+    return patch.object(rules, "walk", lambda s, depth, array, *rest: right(s, depth, depth >= least, *rest))
+
+
+def key_after_value(s, e, depth, position, right=rules.visit):
+    rules.value_of(s, e)
+    return right(s, e, depth, position)
+
+
+def key_after_depth(s, e, depth, position, right=rules.visit):
+    return right(s, e, depth, position if depth <= 200 else None)
+
+
+def key_before_limit(s, strict=False, limit=None, right=rules.check):
+    """No limit where there is a bad key."""
+    return right(s, strict, None if said(verdict, right, s, strict)[0] == 19 else limit)
+
+
 def second_first(first, second, buffer, right=joining.join):
     return right(second, first, buffer)
 
@@ -790,6 +827,23 @@ WRONG_LIMITS = {
     "the key that is looked up is limited": patch.object(rules, "get", key_limited),
     "what is nested has no limit": patch.object(rules, "inside", below_unlimited),
 }
+WRONG_KEYS = {
+    "any digits are a key of an array": other_key(lambda key, position, right: key.isdigit()),
+    "positions are not counted": other_key(lambda key, position, right: right(key, 0)),
+    "positions begin at 1": other_key(lambda key, position, right: right(key, position + 1)),
+    "zeros may lead": other_key(lambda key, position, right: key.isdigit() and int(key) == position),
+    "a sign may lead": other_key(lambda key, position, right: right(key.removeprefix(b"+"), position)),
+    "the last digit is enough": other_key(lambda key, position, right: right(key[-1:], position % 10)),
+    "the first digits are enough": other_key(lambda key, position, right: key and (b"%d" % position).startswith(key)),
+    "a digit more is taken": other_key(lambda key, position, right: right(key, position) or key[-1:].isdigit() and right(key[:-1], position)),
+    "positions never begin anew": patch.object(rules, "check", never_anew),
+    "positions begin with that of the array around": patch.object(rules, "visit", from_outer),
+    "all keys are asked for": keys_asked(0),
+    "all keys but those of the slice are asked for": keys_asked(1),
+    "the key comes behind the reading": patch.object(rules, "visit", key_after_value),
+    "the key comes behind the depth": patch.object(rules, "visit", key_after_depth),
+    "the key comes before the limit": patch.object(rules, "check", key_before_limit),
+}
 WRONG_JOINING = {
     "the second is first": patch.object(joining, "join", second_first),
     "the strict check is made": patch.object(joining, "check", lambda s: rules.check(s, True)),
@@ -807,13 +861,22 @@ def some_reading():
     return chain(own_elements(), chain.from_iterable(about(d) for d, _ in documents()[::5]))
 
 
+def strict_checks():
+    """The strict check of the documents with array keys to ask for, without a limit and under theirs."""
+    for d, _ in chain.from_iterable(group() for group in ARRAYS):
+        yield question("check_strict", verdict, rules.check, d, True, asked=(d,))
+    for limit, d, _ in array_limits():
+        yield question("check_strict", verdict, rules.check, d, True, asked=(d,), limit=limit)
+
+
 def all_telling():
     return chain.from_iterable(joined(*pair) for pair in telling_pairs())
 
 
 def try_rules(library):
     """A wrong rule shows as a difference."""
-    tried = ((some_reading, WRONG_READING), (under_limits, WRONG_LIMITS), (all_telling, WRONG_JOINING), (all_sessions, WRONG_WRITING))
+    tried = [(some_reading, WRONG_READING), (under_limits, WRONG_LIMITS), (strict_checks, WRONG_KEYS)]
+    tried += [(all_telling, WRONG_JOINING), (all_sessions, WRONG_WRITING)]
     for questions, rules_of in tried:
         for what, wrong in rules_of.items():
             with wrong:

@@ -2,7 +2,7 @@
 use Prim.Native.Nat.{ℕ, _-_}
 use mathlib.Core.Path.{_≡_, refl, ap, _∙_}
 use mathlib.Core.List.{List}
-use mathlib.Core.Bool.{Bool, true, false, _&&_}
+use mathlib.Core.Bool.{Bool, false, _&&_, and-false}
 use lib.ListN.{length, drop}
 use lib.Dec.{leb, eqb}
 use Rattle.bson.specs.Bytes.{le32, le64, signed, i32, i64, natural, declares, bytes}
@@ -15,24 +15,19 @@ use Rattle.bson.specs.Step.{admitted, elementUnder, stepUnder, keyAtUnde
 use Rattle.bson.specs.Value.{bool, timestampOf, text, declaresData, binaryValue, scopeValue, content, valueIn, valueOf}
 use Rattle.bson.specs.Value.{elementAtUnder, readAtUnder, readWithUnder, partsOf, partAtUnder}
 use Rattle.bson.specs.Lookup.{found, getUnder, getBytesUnder, getWithUnder, getPartUnder, isEmpty}
-use Rattle.bson.specs.ArrayKey.{goodArrayKey}
 use Rattle.bson.specs.Level.{opening}
 use Rattle.bson.specs.Check.{visit, opened, walkFor, walkUnder, checkUnder}
 use Rattle.bson.specs.Decided.{stepPoints, readingPoints, lookupPoints, partPoints, checkPoints, scopePoints, depthPoints}
-use Rattle.bson.specs.Decided.{strictPoints, NegativeRefused, Hold}
+use Rattle.bson.specs.Decided.{NegativeRefused, Hold}
 
 pub decided-hold : Hold stepPoints × Hold readingPoints × Hold lookupPoints × Hold partPoints
-    × Hold checkPoints × Hold scopePoints × Hold depthPoints × Hold strictPoints
+    × Hold checkPoints × Hold scopePoints × Hold depthPoints
 unfolding le32 le64 signed i32 i64 bytes rows utf8 zeroText cstringUnder tags rowOf lengthField fits zeroEnded stringSize pointerSize
     documentSize binarySize scopeSize patternOptionsUnder regexSizeUnder framedUnder valueSizeUnder admitted elementUnder stepUnder
     keyAtUnder iterateFor iterateUnder bool timestampOf text binaryValue scopeValue content valueIn valueOf elementAtUnder readAtUnder
-    readWithUnder partsOf partAtUnder found getUnder getBytesUnder getWithUnder getPartUnder isEmpty goodArrayKey opening visit opened
-    walkFor walkUnder checkUnder stepPoints readingPoints lookupPoints partPoints checkPoints scopePoints depthPoints strictPoints
-decided-hold = (refl, refl, refl, refl, refl, refl, refl, refl)
-
-and-false : (b : Bool) → b && false ≡ false
-and-false true = refl
-and-false false = refl
+    readWithUnder partsOf partAtUnder found getUnder getBytesUnder getWithUnder getPartUnder isEmpty opening visit opened
+    walkFor walkUnder checkUnder stepPoints readingPoints lookupPoints partPoints checkPoints scopePoints depthPoints
+decided-hold = (refl, refl, refl, refl, refl, refl, refl)
 
 negative-differs : (v : List ℕ) (m : ℕ) → natural (le32 v) ≡ false → declares v m ≡ false
 negative-differs v m n = ap (λ (b : Bool). b && eqb (le32 v) m) n

@@ -6,6 +6,7 @@ pub mod SpanPoints
 pub mod TypePoints
 pub mod FramingPoints
 pub mod LookupPoints
+pub mod StrictPoints
 pub mod Report
 pub mod ReachPoints
 pub mod GrammarPoints

@@ -10,6 +10,7 @@ use Rattle.bson.specs.Step.{admitted, elementUnder, stepUnder, keyAtUnde
 use Rattle.bson.specs.Value.{text, scopeValue, content, valueIn, valueOf, elementAtUnder, readAtUnder, readWithUnder, partsOf}
 use Rattle.bson.specs.Value.{partAtUnder}
 use Rattle.bson.specs.Lookup.{found, getUnder, getBytesUnder, getWithUnder, getPartUnder}
+use Rattle.bson.specs.Decimal.{digits, widthFor, width, decimal}
 use Rattle.bson.specs.ArrayKey.{goodArrayKey}
 use Rattle.bson.specs.Level.{opening}
 use Rattle.bson.specs.Check.{visit, opened, walkFor, walkUnder, checkUnder}
@@ -20,6 +21,6 @@ pub limit-points-hold : Hold keyPoints × Hold regexPoints × Hold nestedPoints 
 unfolding le32 bytes rows utf8 zeroText cstringUnder tags rowOf lengthField fits zeroEnded stringSize documentSize scopeSize
     patternOptionsUnder regexSizeUnder framedUnder valueSizeUnder admitted elementUnder stepUnder keyAtUnder iterateFor iterateUnder text
     scopeValue content valueIn valueOf elementAtUnder readAtUnder readWithUnder partsOf partAtUnder found getUnder getBytesUnder
-    getWithUnder getPartUnder goodArrayKey opening visit opened walkFor walkUnder checkUnder keyPoints regexPoints nestedPoints callPoints
+    getWithUnder getPartUnder digits widthFor width decimal goodArrayKey opening visit opened walkFor walkUnder checkUnder keyPoints regexPoints nestedPoints callPoints
     unlimitedPoints
 limit-points-hold = (refl, refl, refl, refl, refl)

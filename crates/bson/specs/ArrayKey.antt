@@ -1,14 +1,10 @@
--- What a good key of an array is to the strict check (RULES.md, "The whole check").
+-- What a good key of an array is to the strict check (RULES.md, "The whole check", as request 3 has it; BSON 1.1, `array`).
 use Prim.Native.Nat.{ℕ}
-use mathlib.Core.List.{List, [], _∷_}
-use mathlib.Core.Bool.{Bool, true, false, _&&_}
-use lib.Dec.{leb}
+use mathlib.Core.List.{List}
+use mathlib.Core.Bool.{Bool}
+use Rattle.bson.specs.Bytes.{same}
+use Rattle.bson.specs.Decimal.{decimal}
 
-abbrev pub allDigits : List ℕ → Bool
-allDigits [] = true
-allDigits (b ∷ k) = (leb 48 b && leb b 57) && allDigits k
-
--- "one or more decimal digits"; the key's position is not looked at
+-- "exactly the decimal form of its position, without leading zeros"
 unfoldable pub goodArrayKey : ℕ → List ℕ → Bool
-goodArrayKey position [] = false
-goodArrayKey position (b ∷ k) = allDigits (b ∷ k)
+goodArrayKey position key = same key (decimal position)

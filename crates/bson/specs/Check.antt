@@ -16,7 +16,7 @@ use Rattle.bson.specs.Level.{Opening, closed, opens, opening, Level, out
 abbrev pub Walk : Type 0
 Walk = List ℕ → Level → Answer ℕ
 
--- the strict check asks "that each key of an array is one or more decimal digits"
+-- the strict check asks "that each key of an array is exactly the decimal form of its position"
 abbrev pub keyPasses : Bool → Level → ℕ → List ℕ → Bool
 keyPasses strict l position key = not (strict && l .isArray) || goodArrayKey position key
 

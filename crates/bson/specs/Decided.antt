@@ -26,10 +26,6 @@ empty = 0x05 ∷ 0 ∷ 0 ∷ 0 ∷ 0 ∷ []
 abbrev pub twoKeys : List ℕ
 twoKeys = 0x0D ∷ 0 ∷ 0 ∷ 0 ∷ 0x08 ∷ 0x61 ∷ 0 ∷ 0 ∷ 0x08 ∷ 0x61 ∷ 0 ∷ 0x01 ∷ 0 ∷ []
 
--- an array of one null, its key two bytes
-abbrev pub arrayKeyed : ℕ → ℕ → List ℕ
-arrayKeyed a b = 0x10 ∷ 0 ∷ 0 ∷ 0 ∷ 0x04 ∷ 0 ∷ 0x09 ∷ 0 ∷ 0 ∷ 0 ∷ 0x0A ∷ a ∷ b ∷ 0 ∷ 0 ∷ 0 ∷ []
-
 -- code with scope of empty code, its scope five bytes of which the first is given
 abbrev pub scopeOf : ℕ → List ℕ
 scopeOf n = 0x15 ∷ 0 ∷ 0 ∷ 0 ∷ 0x0F ∷ 0 ∷ 0x0E ∷ 0 ∷ 0 ∷ 0 ∷ 0x01 ∷ 0 ∷ 0 ∷ 0 ∷ 0 ∷ n ∷ 0 ∷ 0 ∷ 0 ∷ 0 ∷ 0 ∷ []
@@ -172,19 +168,6 @@ depthPoints =
     -- reading comes before the depth, and an empty document may lie deeper
     ∷ (walkAt 201 badBoolean, refuses 11 4)
     ∷ (walkAt 202 empty, gives 0)
-    ∷ []
-
--- the strict check
-unfoldable pub strictPoints : List Point
-strictPoints =
-    -- a strict array key: ASCII digits, one or more
-    (check true (arrayKeyed 0x30 0x39), gives 2)
-    ∷ (check true (arrayKeyed 0x2F 0x30), refuses 19 10)
-    ∷ (check true (arrayKeyed 0x30 0x3A), refuses 19 10)
-    ∷ (check true (0x0E ∷ 0 ∷ 0 ∷ 0 ∷ 0x04 ∷ 0 ∷ 0x07 ∷ 0 ∷ 0 ∷ 0 ∷ 0x0A ∷ 0 ∷ 0 ∷ 0 ∷ []), refuses 19 10)
-    ∷ (check false (arrayKeyed 0x30 0x3A), gives 2)
-    -- the key of an array comes before reading
-    ∷ (check true (0x0F ∷ 0 ∷ 0 ∷ 0 ∷ 0x04 ∷ 0 ∷ badBoolean ++ (0 ∷ [])), refuses 19 10)
     ∷ []
 
 -- ---- what no bytes can show

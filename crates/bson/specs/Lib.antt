@@ -26,6 +26,7 @@ pub mod SpanPoints
 pub mod TypePoints
 pub mod FramingPoints
 pub mod LookupPoints
+pub mod StrictPoints
 pub mod ReachPoints
 pub mod GrammarPoints
 pub mod WriterPoints

@@ -43,6 +43,15 @@ module _ (strict : Bool) (s : List ℕ) (l : Level) (position : ℕ) (e : Elemen
   unfolding visit
   visit-gives o r = rw (r .key, r .reads, le-leb (l .depth) 200 (r .shallow), r .is)
 
+  -- where the key passes the visit is that of the plain check, which asks for none; else it is refused with 19
+  pub visit-keyed : keyPasses strict l position (bytes s (e .key)) ≡ true → visit strict s l position e ≡ visit false s l 0 e
+  unfolding visit
+  visit-keyed k = rw k
+
+  pub visit-bad-key : keyPasses strict l position (bytes s (e .key)) ≡ false → visit strict s l position e ≡ refuses 19 (l .base + e .place)
+  unfolding visit
+  visit-bad-key k = rw k
+
 -- ---- the fuel of the walk
 
 -- walks that agree on shorter lists
@@ -155,8 +164,8 @@ few-for limit (suc f) strict s l n i x =
 walk-few : (limit : Limit) (strict : Bool) (v : List ℕ) (k : Level) (m : ℕ) → walkUnder limit strict v k ≡ gives m → m ≤ length v
 walk-few limit strict v k m x = few-for limit (suc (length v)) strict v k m (omega arith) x
 
--- an element brings fewer values than it has bytes
-pub opened-count : (limit : Limit) (strict : Bool) (s : List ℕ) (l : Level) (position : ℕ) (c : Cursor) (e : Element) → FramedAt s c e
-    → (n : ℕ) → opened strict (walkUnder limit strict) s l position e ≡ gives n → c .offset + n < past e
-opened-count limit strict s l position c e y n x =
-    opened-few strict s (walkUnder limit strict) (λ v k m j q. walk-few limit strict v k m q) l position c e y n x
+-- an element brings fewer values than it has bytes, whether its own key is asked for or not
+pub opened-count : (limit : Limit) (asked strict : Bool) (s : List ℕ) (l : Level) (position : ℕ) (c : Cursor) (e : Element)
+    → FramedAt s c e → (n : ℕ) → opened asked (walkUnder limit strict) s l position e ≡ gives n → c .offset + n < past e
+opened-count limit asked strict s l position c e y n x =
+    opened-few asked s (walkUnder limit strict) (λ v k m j q. walk-few limit strict v k m q) l position c e y n x

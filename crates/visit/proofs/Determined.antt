@@ -26,4 +26,4 @@ visited-again place (Is (Opens isArray levels inner)) = refl
 visited-again place (Refused number) = refl
 
 pub visit-determined : (κs : Lfts 1) (a : Dens κs visit-kinds.ps) → Determined (visit-reads.Post κs a)
-visit-determined κs a r₁ r₂ s₁ s₂ p q = injective-by (saidVisited _) unsaidVisited (visited-again _) r₁ r₂ (p 0 ∙ sym (q 0))
+visit-determined κs a r₁ r₂ s₁ s₂ p q = injective-by (saidVisited _) unsaidVisited (visited-again _) r₁ r₂ (p ∙ sym q)

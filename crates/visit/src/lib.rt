@@ -1,9 +1,8 @@
-// One value of the whole check: its key, its reading, its depth and what it opens (RULES.md, "The whole check").
-ghost use Prim.Native.Nat.{ℕ, _+_};
+// One value of the whole check: its reading, its depth and what it opens (RULES.md, "The whole check").
+ghost use Prim.Native.Nat.{_+_};
 ghost use mathlib.Core.Path.{_≡_};
-ghost use Rattle.bson.specs.Bytes.{bytes};
-ghost use Rattle.bson.specs.Check.{keyPasses, visit as visitOf};
-ghost use Rattle.part.specs.Said.{saidPart};
+ghost use mathlib.Core.Bool.{false};
+ghost use Rattle.bson.specs.Check.{visit as visitOf};
 ghost use Rattle.iter.specs.Said.{saidElement};
 ghost use Rattle.bson.specs.Level.{opening};
 ghost use Rattle.value.specs.Said.{saidValue};
@@ -36,16 +35,6 @@ pub enum Visited {
     Refused(u8),
 }
 
-// The strict check asks for the keys of arrays, and for no others.
-fn key_passes(s: &[u8], strict: bool, level: Level, key: Part) -> bool
-    ensures { λ r. ⌜ ((position : ℕ) → r ≡ keyPasses strict (saidLevel level) position (bytes (now (s .entry)) (saidPart key))) ⌝ }
-{
-    if strict & level.array {
-        return array_key::is_good(part::bytes_of(s, key));
-    }
-    true
-}
-
 // One level for documents and arrays, two for a scope.
 fn opening_of(value: Value) -> Opening
     ensures { λ r. ⌜ saidOpening r ≡ opening (saidValue value) ⌝ }
@@ -70,21 +59,19 @@ fn opening_of(value: Value) -> Opening
     }
 }
 
-// The key (19), the reading, the depth (13), in this order.
-pub fn visit(s: &[u8], strict: bool, level: Level, element: Element) -> Visited
-    ensures { λ r. ⌜ ((position : ℕ) → saidVisited (level .base + element .place) r
-        ≡ visitOf strict (now (s .entry)) (saidLevel level) position (saidElement element)) ⌝ }
+// The reading, the depth (13), in this order. No key is asked for, so it is at no position.
+pub fn visit(s: &[u8], level: Level, element: Element) -> Visited
+    ensures { λ r. ⌜ saidVisited (level .base + element .place) r ≡ visitOf false (now (s .entry)) (saidLevel level) 0 (saidElement element) ⌝ }
 {
-    if key_passes(s, strict, level, element.key) {
-        return match value::parse(s, element.tag, element.value) {
-            Parsed::Refused(number) => Visited::Refused(number),
-            Parsed::Is(value) => {
-                if level.depth <= bounds::MAX_DEPTH {
-                    return Visited::Is(opening_of(value));
-                }
-                Visited::Refused(13)
+    // a part of its own, so that the element beside it need not lie in memory
+    let framed = element.value;
+    match value::parse(s, element.tag, framed) {
+        Parsed::Refused(number) => Visited::Refused(number),
+        Parsed::Is(value) => {
+            if level.depth <= bounds::MAX_DEPTH {
+                return Visited::Is(opening_of(value));
             }
-        };
+            Visited::Refused(13)
+        }
     }
-    Visited::Refused(19)
 }

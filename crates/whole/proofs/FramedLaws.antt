@@ -19,6 +19,7 @@ use Rattle.bson.specs.Value as value
 use Rattle.bson.specs.Value.{Value, leaf, document, int32, int64, dateTime, double, timestamp, content, valueIn, valueOf, timestampOf}
 use Rattle.laws.proofs.AnswerLaws.{gives-injective, then-gives, then-from, unless-gives}
 use Rattle.laws.proofs.BytesLaws.{bytes-length}
+use Rattle.laws.proofs.CheckLaws.{visit-gives}
 use Rattle.laws.specs.FramedAt.{FramedAt}
 use Rattle.laws.proofs.TagLaws.{sizeFor, type-sized}
 use Tags.{ElementType, Boolean, Int32, Double, Int64, DateTime, Timestamp, ObjectId, Decimal128, Null, Undefined, MinKey, MaxKey, String}
@@ -141,19 +142,13 @@ module _ (s : List ℕ) (c : Cursor) (e : Element) (y : FramedAt s c e) where
   reads-document true t = (value.array (e .value), value-is-of Array _ (rw t) refl, refl)
   reads-document false t = (document (e .value), value-is-of EmbeddedDocument _ (rw t) refl, refl)
 
-  -- what is read and not too deep is visited, and the plain check asks for no key
-  visits : (l : Level) (position : ℕ) (v : Value) (o : Opening) → valueOf s e ≡ gives v → opening v ≡ o → l .depth ≤ 200
-      → gives o ≡ visit false s l position e
-  unfolding visit
-  visits l position v o reads shut deep = rw (reads, le-leb (l .depth) 200 deep, shut)
+  -- what is read and not too deep is visited
+  module _ (l : Level) (deep : l .depth ≤ 200) where
+    visits : (v : Value) (o : Opening) → valueOf s e ≡ gives v → opening v ≡ o → gives o ≡ visit false s l 0 e
+    visits v o reads is = sym (visit-gives false s l 0 e o (record { key = refl; value = v; reads = reads; shallow = deep; is = is }))
 
-  module _ (strict : Bool) (l : Level) (plain : strict ≡ false) (deep : l .depth ≤ 200) (position : ℕ) where
-    pub visits-closed : (n : ℕ) → sizedOf (e .tag) ≡ gives (fixed n) → (n ≡ 1 → ⊥) → gives closed ≡ visit strict s l position e
-    visits-closed n z one =
-        let (v, reads, shut) = reads-closed n z one in
-        visits l position v closed reads shut deep ∙ ap (λ (b : Bool). visit b s l position e) (sym plain)
+    pub visits-closed : (n : ℕ) → sizedOf (e .tag) ≡ gives (fixed n) → (n ≡ 1 → ⊥) → gives closed ≡ visit false s l 0 e
+    visits-closed n z one = let (v, reads, shut) = reads-closed n z one in visits v closed reads shut
 
-    pub visits-document : (array : Bool) → e .tag ≡ cond array 4 3 → gives (opens array 1 (e .value)) ≡ visit strict s l position e
-    visits-document array t =
-        let (v, reads, into) = reads-document array t in
-        visits l position v (opens array 1 (e .value)) reads into deep ∙ ap (λ (b : Bool). visit b s l position e) (sym plain)
+    pub visits-document : (array : Bool) → e .tag ≡ cond array 4 3 → gives (opens array 1 (e .value)) ≡ visit false s l 0 e
+    visits-document array t = let (v, reads, into) = reads-document array t in visits v (opens array 1 (e .value)) reads into

@@ -3,7 +3,7 @@
 use Prim.Native.Nat.{ℕ, suc, _+_, _≤_, _<_}
 use mathlib.Core.Path.{_≡_, refl, sym, ap, subst, _∙_}
 use mathlib.Core.List.{List}
-use mathlib.Core.Bool.{Bool, true, false}
+use mathlib.Core.Bool.{Bool, true, false, true≢false, _&&_}
 use native.Mathlib.Omega.{arith}
 use lib.ListN.{length, getD}
 use lib.Dec.{leb, eqb}
@@ -13,13 +13,14 @@ use Rattle.bson.specs.Cstring.{Limit}
 use Rattle.bson.specs.Step.{terminator, admitted, cursor, Cursor, Element, past, yield, end, stepUnder}
 use Rattle.bson.specs.Value.{Value, leaf, document, array, codeWithScope}
 use Rattle.bson.specs.Level.{Opening, closed, opens, opening, Level, deeper}
-use Rattle.bson.specs.Check.{visit, opened, walkUnder}
+use Rattle.bson.specs.ArrayKey.{goodArrayKey}
+use Rattle.bson.specs.Check.{Walk, keyPasses, visit, opened, walkUnder}
 use Rattle.laws.proofs.AnswerLaws.{never, answered}
 use Rattle.laws.specs.FramedAt.{FramedAt}
 use Rattle.laws.proofs.StepLaws.{step-yields}
 use Rattle.laws.proofs.AdvanceLaws.{step-unadmitted, refused-place}
 use Rattle.laws.proofs.OpenLaws.{value-opens}
-use Rattle.laws.proofs.CheckLaws.{visit-says, walkFrom, walk-eq, walk-ends, walk-refused, walk-onward}
+use Rattle.laws.proofs.CheckLaws.{visit-says, visit-keyed, visit-bad-key, walkFrom, walk-eq, walk-ends, walk-refused, walk-onward}
 use Rattle.visit.specs.declared.Opening as declared
 use Rattle.visit.specs.Said.{saidOpening, saidVisited}
 use Rattle.visit.specs.declared.Visited.{Visited}
@@ -56,22 +57,46 @@ yields-placed limit s offset e x = let y = step-yields limit s _ e x in subst (�
 
 -- ---- an opened value
 
--- an opened value, by what visiting it answers
-module _ (limit : Limit) (strict : Bool) (s : List ℕ) (l : Level) (position : ℕ) (e : Element) where
-  pub opened-refused : (n p : ℕ) → visit strict s l position e ≡ refuses n p
-      → refuses n p ≡ opened strict (walkUnder limit strict) s l position e
+-- an opened value whose own key is not asked for, by what visiting it answers
+module _ (walk : Walk) (s : List ℕ) (l : Level) (e : Element) where
+  pub opened-refused : (n p : ℕ) → visit false s l 0 e ≡ refuses n p → refuses n p ≡ opened false walk s l 0 e
   unfolding opened
   opened-refused n p v = rw v
 
-  pub opened-closed : visit strict s l position e ≡ gives closed → gives 1 ≡ opened strict (walkUnder limit strict) s l position e
+  pub opened-closed : visit false s l 0 e ≡ gives closed → gives 1 ≡ opened false walk s l 0 e
   unfolding opened
   opened-closed v = rw v
 
-  pub opened-inside : (isArray : Bool) (levels : ℕ) (inner : Part) → visit strict s l position e ≡ gives (opens isArray levels inner)
-      → (d : List ℕ) → d ≡ bytes s inner → (x : Answer ℕ) → x ≡ walkUnder limit strict d (deeper l isArray levels inner)
-      → (then x λ n. gives (1 + n)) ≡ opened strict (walkUnder limit strict) s l position e
+  pub opened-inside : (isArray : Bool) (levels : ℕ) (inner : Part) → visit false s l 0 e ≡ gives (opens isArray levels inner)
+      → (d : List ℕ) → d ≡ bytes s inner → (x : Answer ℕ) → x ≡ walk d (deeper l isArray levels inner)
+      → (then x λ n. gives (1 + n)) ≡ opened false walk s l 0 e
   unfolding opened
   opened-inside isArray levels inner v d b x w = rw (v, ← b, ← w)
+
+-- one whose key is asked for: where it passes nothing else is asked of it, else it is refused with 19
+module _ (walk : Walk) (strict : Bool) (s : List ℕ) (l : Level) (position : ℕ) (e : Element) where
+  pub opened-keyed : keyPasses strict l position (bytes s (e .key)) ≡ true → opened strict walk s l position e ≡ opened false walk s l 0 e
+  unfolding opened
+  opened-keyed k = rw (visit-keyed strict s l position e k)
+
+  pub opened-bad-key : (counted : ℕ) → strict && l .isArray ≡ true → counted ≡ position → goodArrayKey counted (bytes s (e .key)) ≡ false
+      → refuses 19 (l .base + e .place) ≡ opened strict walk s l position e
+  unfolding opened
+  opened-bad-key counted a p b = rw (visit-bad-key strict s l position e (rw (a, ← p, b)))
+
+-- what is known of a key behind the question: that it passes at its position, and how many have been counted where they are asked for
+module _ (strict : Bool) (l : Level) (key : List ℕ) (position counted more : ℕ) where
+  pub record Asked : Type 0 where
+    pub passes : keyPasses strict l position key ≡ true
+    pub counts : strict && l .isArray ≡ true → more ≡ suc position
+    pub few : more ≤ suc counted
+
+  pub asked-passes : strict && l .isArray ≡ true → counted ≡ position → goodArrayKey counted key ≡ true → more ≡ counted + 1 → Asked
+  asked-passes a p good m =
+      record { passes = rw (a, ← p, good); counts = λ q. omega arith; few = omega arith }
+
+  pub not-asked : strict && l .isArray ≡ false → more ≡ counted → Asked
+  not-asked a m = record { passes = rw a; counts = λ q. absurd (true≢false (sym q ∙ a)); few = omega arith }
 
 levels-few : (x : Value) (isArray : Bool) (levels : ℕ) (inner : Part) → opening x ≡ opens isArray levels inner → levels ≤ 2
 unfolding opening
@@ -89,11 +114,11 @@ pub record Enters (s : List ℕ) (l : Level) (c : Cursor) (levels : ℕ) (inner 
   pub shallow : l .depth ≤ 200
   pub few : levels ≤ 2
 
-pub enters : (strict : Bool) (s : List ℕ) (l : Level) (position : ℕ) (c : Cursor) (e : Element) → FramedAt s c e
-    → (isArray : Bool) (levels : ℕ) (inner : Part) → visit strict s l position e ≡ gives (opens isArray levels inner)
+pub enters : (s : List ℕ) (l : Level) (c : Cursor) (e : Element) → FramedAt s c e
+    → (isArray : Bool) (levels : ℕ) (inner : Part) → visit false s l 0 e ≡ gives (opens isArray levels inner)
     → Enters s l c levels inner
-enters strict s l position c e y isArray levels inner v =
-    let r = visit-says strict s l position e _ v in
+enters s l c e y isArray levels inner v =
+    let r = visit-says false s l 0 e _ v in
     let o = value-opens s c e y (r .value) (r .reads) isArray levels inner (r .is) in
     record { ends = omega arith; shorter = omega arith; shallow = r .shallow; few = levels-few (r .value) isArray levels inner (r .is) }
 

@@ -12,7 +12,7 @@ pub struct Walk<'a> {
     /// The same at every level.
     limit: Limit,
     pub verdict: Result<(), Refusal>,
-    /// The place of the first key of an array that is not decimal digits, where the strict check ends (19).
+    /// The place of the first key of an array that is not its position in decimal, where the strict check ends (19).
     pub bad_key: Option<usize>,
     pub count: usize,
     /// A value was met that only a stand-in accepted or refused.
@@ -38,9 +38,10 @@ pub fn walk(doc: &RawDocument, limit: Limit) -> Walk<'_> {
 impl<'a> Walk<'a> {
     /// The values of a document or array, which have this depth, and those inside them.
     fn inside(&mut self, doc: &'a RawDocument, array: bool, depth: u32) -> Result<(), Refusal> {
-        for step in Steps::new(self.outer, doc, self.limit) {
+        let steps = Steps::new(self.outer, doc, self.limit);
+        for (position, step) in steps.enumerate() {
             let element = step?;
-            if array && !is_digits(element.raw.key().as_str()) {
+            if array && element.raw.key().as_str() != position.to_string() {
                 self.bad_key = self.bad_key.or(Some(element.place));
             }
             let reading = Reading::of(&element);
@@ -73,8 +74,4 @@ impl<'a> Walk<'a> {
         let compared = !["utf8", "too-long"].contains(&ours);
         (compared && ours != deep).then_some(deep)
     }
-}
-
-fn is_digits(key: &str) -> bool {
-    !key.is_empty() && key.bytes().all(|byte| byte.is_ascii_digit())
 }
