@@ -218,8 +218,8 @@ fringewell_joined fringewell_join(const uint8_t *first, size_t first_length, con
 /* ---- Writing (RULES.md, "Writer and joining") ----
  *
  * A fresh writer opens its top document, appends, opens and closes documents and arrays, and closes the top: then the first `used` bytes
- * of `out` are a document that passes the check and reads back as what was given. Each call takes the same `out` and `out_length`, and
- * leaves the bytes behind those used as they were.
+ * of `out` are a document that passes the check, also the strict one, and reads back as what was given. Each call takes the same `out`
+ * and `out_length`, and leaves the bytes behind those used as they were.
  *
  * Refused in this order: 18 where nothing is open, the top was opened before, or the state is impossible; 13 where the value would lie
  * deeper than 200; 15 where a key or text is not UTF-8, or a key, pattern or options has a zero byte; 14 exactly where the bytes used, the

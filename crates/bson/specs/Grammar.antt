@@ -207,13 +207,9 @@ pub record Good (t : Elements) : Type 0 where
 
 -- ---- the keys of arrays
 
--- every key in an array meets what is asked at its position; `position` elements of an array, or of no array, come before
-abbrev pub ArrayKeys : (ℕ → List ℕ → Type 0) → Bool → ℕ → Elements → Type 0
-ArrayKeys Asked inArray position none = Unit
-ArrayKeys Asked inArray position (leaf key v rest) = (inArray ≡ true → Asked position key) × ArrayKeys Asked inArray (suc position) rest
-ArrayKeys Asked inArray position (nest n key inner rest) =
-    (inArray ≡ true → Asked position key) × (ArrayKeys Asked (isArray n) 0 inner × ArrayKeys Asked inArray (suc position) rest)
-
--- "inside an array [..] the keys [are] 0, 1, 2 on in decimal"
+-- "0, 1, 2 on in decimal": every key in an array is that of its position; `position` elements of an array, or of no array, come before
 abbrev pub Numbered : Bool → ℕ → Elements → Type 0
-Numbered inArray position t = ArrayKeys (λ i key. key ≡ decimal i) inArray position t
+Numbered inArray position none = Unit
+Numbered inArray position (leaf key v rest) = (inArray ≡ true → key ≡ decimal position) × Numbered inArray (suc position) rest
+Numbered inArray position (nest n key inner rest) =
+    (inArray ≡ true → key ≡ decimal position) × (Numbered (isArray n) 0 inner × Numbered inArray (suc position) rest)

@@ -1,12 +1,12 @@
--- The bytes, the count, the depth and the texts of trees, each by a tree that shows it: the examples of BSON 1.1 ("Specification"), and a
--- code with scope (RULES.md, "The whole check").
+-- The bytes, the count, the depth, the keys and the texts of trees, each by a tree that shows it: the examples of BSON 1.1
+-- ("Specification"), and a code with scope (RULES.md, "The whole check").
 use Prim.Native.Nat.{ℕ}
 use mathlib.Core.Path.{_≡_}
 use mathlib.Core.List.{List, [], _∷_}
 use mathlib.Core.Bool.{false}
 use lib.IntN.{pos}
 use Rattle.bson.specs.Value.{int32, double, string, null}
-use Rattle.bson.specs.Grammar.{array, Nest, embedded, scope, nestGood, Elements, none, leaf, nest, treeBytes, size, Shallow}
+use Rattle.bson.specs.Grammar.{array, Nest, embedded, scope, nestGood, Elements, none, leaf, nest, treeBytes, size, Shallow, Numbered}
 
 -- {"hello": "world"}
 abbrev pub hello : Elements
@@ -53,6 +53,10 @@ sizesOf (t ∷ ts) = size t ∷ sizesOf ts
 abbrev pub holdingNull : Nest → Elements
 holdingNull n = nest n [] (leaf [] null none) none
 
+-- an array of a null under a key, and of what comes behind it
+abbrev pub arrayKeyed : List ℕ → Elements → Elements
+arrayKeyed key rest = nest (embedded array) [] (leaf key null rest) none
+
 pub record GrammarPoints : Type 0 where
   pub bytes : bytesOf (hello ∷ awesome ∷ scoped ∷ []) ≡ written
   -- a value that holds others is one too
@@ -62,5 +66,10 @@ pub record GrammarPoints : Type 0 where
   pub array-at-200 : Shallow 200 (holdingNull (embedded array)) → ⊥
   pub scope-at-198 : Shallow 198 (holdingNull (scope []))
   pub scope-at-199 : Shallow 199 (holdingNull (scope [])) → ⊥
+  -- "0, 1, 2 on in decimal" are the keys of an array; those of a document or a scope are any
+  pub numbered : Numbered false 0 awesome
+  pub from-1 : Numbered false 0 (arrayKeyed (0x31 ∷ []) (leaf (0x32 ∷ []) null none)) → ⊥
+  pub repeated : Numbered false 0 (arrayKeyed (0x30 ∷ []) (leaf (0x30 ∷ []) null none)) → ⊥
+  pub in-scope : Numbered false 0 scoped
   -- a code is UTF-8
   pub code : nestGood (scope (0xFF ∷ [])) ≡ false

@@ -7,7 +7,7 @@ use native.Mathlib.Nat.{add-zero}
 use native.Mathlib.Omega.{arith}
 use lib.ListN.{length, length-append}
 use Rattle.bson.specs.Grammar.{Item, row, Embedded, embedded, nestTag, nestBytes, Elements, none, leaf, nest, followedBy, count, elementBytes}
-use Rattle.bson.specs.Grammar.{listBytes, treeBytes, Shallow, InOrder, ArrayKeys}
+use Rattle.bson.specs.Grammar.{listBytes, treeBytes, Shallow, InOrder, Numbered}
 use Rattle.laws.proofs.GrammarLaws.{length-document, length-element}
 
 -- elements behind others
@@ -97,15 +97,10 @@ shallow-followed level none more g h = h
 shallow-followed level (leaf key v rest) more g h = (g .0, shallow-followed level rest more (g .1) h)
 shallow-followed level (nest n key inner rest) more g h = (g .0, (g .1 .0, shallow-followed level rest more (g .1 .1) h))
 
-pub keys-followed : (Asked : ℕ → List ℕ → Type 0) (inArray : Bool) (i : ℕ) (t more : Elements) → ArrayKeys Asked inArray i t
-    → ArrayKeys Asked inArray (i + count t) more → ArrayKeys Asked inArray i (followedBy t more)
-keys-followed Asked inArray i none more g h = rw add-zero at h
-keys-followed Asked inArray i (leaf key v rest) more g h =
-    (g .0, keys-followed Asked inArray (suc i) rest more (g .1) (subst (λ (k : ℕ). ArrayKeys Asked inArray k more) (omega arith) h))
-keys-followed Asked inArray i (nest n key inner rest) more g h = (
-  g .0,
-  (
-    g .1 .0,
-    keys-followed Asked inArray (suc i) rest more (g .1 .1) (subst (λ (k : ℕ). ArrayKeys Asked inArray k more) (omega arith) h),
-  ),
-)
+pub numbered-followed : (inArray : Bool) (i : ℕ) (t more : Elements) → Numbered inArray i t → Numbered inArray (i + count t) more
+    → Numbered inArray i (followedBy t more)
+numbered-followed inArray i none more g h = rw add-zero at h
+numbered-followed inArray i (leaf key v rest) more g h =
+    (g .0, numbered-followed inArray (suc i) rest more (g .1) (subst (λ (k : ℕ). Numbered inArray k more) (omega arith) h))
+numbered-followed inArray i (nest n key inner rest) more g h =
+    (g .0, (g .1 .0, numbered-followed inArray (suc i) rest more (g .1 .1) (subst (λ (k : ℕ). Numbered inArray k more) (omega arith) h)))

@@ -9,10 +9,9 @@ use mathlib.Core.Logic.{_↔_}
 use lib.ListN.{length}
 use Rattle.bson.specs.Answer.{gives}
 use Rattle.bson.specs.Bytes.{AreBytes}
-use Rattle.bson.specs.ArrayKey.{goodArrayKey}
 use Rattle.bson.specs.Level.{Level}
 use Rattle.bson.specs.Check.{check}
-use Rattle.bson.specs.Grammar.{Elements, treeBytes, size, Shallow, Good, ArrayKeys}
+use Rattle.bson.specs.Grammar.{Elements, treeBytes, size, Shallow, Good, Numbered}
 use Rattle.bson.specs.Meaning.{Means}
 use Rattle.bson.specs.Reach.{start, Comes}
 use Rattle.bson.specs.Cstring.{unlimited}
@@ -38,9 +37,9 @@ pub record OneTree (d : List ℕ) : Type 0 where
 pub record OneMeaning : Type 0 where
   -- the plain check accepts a slice with n exactly where it is the bytes of a good tree of n values, none deeper than 200
   pub plain : (s : List ℕ) (n : ℕ) → AreBytes s → (check false s ≡ gives n) ↔ ((t : Elements) × Frame s n t)
-  -- the strict one where in this tree every key of an array is good besides
+  -- the strict one where in this tree the keys of arrays are as the writer makes them besides
   pub strict : (s : List ℕ) (n : ℕ) → AreBytes s
-      → (check true s ≡ gives n) ↔ ((t : Elements) × Frame s n t × ArrayKeys (λ i key. goodArrayKey i key ≡ true) false 0 t)
+      → (check true s ≡ gives n) ↔ ((t : Elements) × Frame s n t × Numbered false 0 t)
   -- one frame, one tree
   pub injective : (t u : Elements) → Good t → Good u → treeBytes t ≡ treeBytes u → t ≡ u
   -- iterating, reading and opening the bytes of a tree gives the tree, and what gives a tree is its bytes

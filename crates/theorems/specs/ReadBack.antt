@@ -3,7 +3,7 @@
 use Prim.Native.Nat.{ℕ, suc}
 use mathlib.Core.Path.{_≡_}
 use mathlib.Core.List.{List, [], _∷_}
-use mathlib.Core.Bool.{false, cond}
+use mathlib.Core.Bool.{true, false, cond}
 use lib.ListN.{length, take}
 use Rattle.bson.specs.Answer.{Answer, gives, refuses}
 use Rattle.bson.specs.Check.{check}
@@ -88,13 +88,14 @@ Accepted (c ∷ cs) s = ((d : Desk) × (answer c (s .left) ≡ gives d)) × Acce
 
 -- ---- what is written reads back
 
--- the used bytes are the tree's bytes; these mean the tree, and pass the whole check with the number of its values
+-- the used bytes are the tree's bytes; these mean the tree, and pass the whole check, plain and strict, with the number of its values
 pub record ReadsBack (d : Desk) (t : Elements) : Type 0 where
   pub closed : depth (d .state) ≡ 0
   pub bytes : take (used (d .state)) (d .buffer) ≡ treeBytes t
   pub means : Means (treeBytes t) t
   pub numbered : Numbered false 0 t
   pub passes : check false (treeBytes t) ≡ gives (size t)
+  pub strict : check true (treeBytes t) ≡ gives (size t)
 
 -- how a session stands that began with a buffer: nothing is open before the top is opened, and after it is closed
 abbrev pub Stands : List ℕ → Desk → Building → Type 0

@@ -14,6 +14,8 @@ use Rattle.bson.specs.Check.{keyPasses, check, checkUnder}
 use Rattle.bson.specs.Grammar.{Nest, levels, isArray, Elements, none, leaf, nest, size, Shallow}
 use Rattle.bson.specs.Meaning.{Holding, single, nested, holding, Yields, MeansFrom, ends, yields, opens}
 use Rattle.bson.specs.Reach.{Spot, start, spotBehind, within, YieldsAt}
+use Rattle.bson.specs.Decimal.{decimal}
+use Rattle.laws.proofs.BytesLaws.{same-eq}
 use Rattle.laws.proofs.ReadLaws.{read-step}
 use Rattle.laws.proofs.StepLaws.{step-yields}
 use Rattle.laws.proofs.AdvanceLaws.{ended-at}
@@ -34,9 +36,10 @@ pub record Tree (strict : Bool) (σ : Spot) (n : ℕ) : Type 0 where
   pub asked : KeysAsked strict (σ .level .isArray) (σ .position) tree
   pub counted : size tree ≡ n
 
-key-good : (strict : Bool) (l : Level) (position : ℕ) (key : List ℕ) → keyPasses strict l position key ≡ true
-    → strict ≡ true → l .isArray ≡ true → goodArrayKey position key ≡ true
-key-good strict l position key h s a = rw (s, a) at h
+key-numbered : (strict : Bool) (l : Level) (position : ℕ) (key : List ℕ) → keyPasses strict l position key ≡ true
+    → strict ≡ true → l .isArray ≡ true → key ≡ decimal position
+unfolding goodArrayKey
+key-numbered strict l position key h s a = same-eq key (decimal position) (rw (s, a) at h)
 
 -- ---- a value in front of a tree
 
@@ -72,7 +75,7 @@ module _ (strict : Bool) (σ : Spot) (are : AreBytes (σ .document)) (e : Elemen
         tree = leaf keyed-by item (rest .tree);
         means = yields e (yielded (single item) _ q (coded (single item) q .tagged)) (rest .means);
         shallow = (v .shallow, rest .shallow);
-        asked = λ s. (key-good strict (σ .level) (σ .position) keyed-by (v .key) s, rest .asked s);
+        asked = λ s. (key-numbered strict (σ .level) (σ .position) keyed-by (v .key) s, rest .asked s);
         counted = ap (λ (x : ℕ). 1 + x) (rest .counted);
       }
   in-front (nested n p) q inner k (deep isArray′ levels′ p′ j w) =
@@ -81,7 +84,7 @@ module _ (strict : Bool) (σ : Spot) (are : AreBytes (σ .document)) (e : Elemen
         tree = nest n keyed-by (i .tree) (rest .tree);
         means = opens p e (yielded (nested n p) _ q (coded (nested n p) q .tagged)) (i .means) (rest .means);
         shallow = (v .shallow, (i .shallow, rest .shallow));
-        asked = λ s. (key-good strict (σ .level) (σ .position) keyed-by (v .key) s, (i .asked s, rest .asked s));
+        asked = λ s. (key-numbered strict (σ .level) (σ .position) keyed-by (v .key) s, (i .asked s, rest .asked s));
         counted = omega (arith, i .counted, rest .counted);
       }
 

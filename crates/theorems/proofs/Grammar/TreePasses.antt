@@ -1,5 +1,5 @@
 -- A document that means a tree none of whose values lies deeper than 200 passes the plain whole check, with the number of the tree's
--- values, and the strict one where the keys of arrays are good (RULES.md, "The whole check").
+-- values, and the strict one where the keys of arrays are those of their positions (RULES.md, "The whole check").
 use Prim.Native.Nat.{ℕ, suc, _+_, _≤_}
 use mathlib.Core.Path.{_≡_, refl, sym, ap, _∙_}
 use mathlib.Core.List.{List}
@@ -11,9 +11,11 @@ use Rattle.bson.specs.Value.{Value, leaf, document, array, codeWithScope}
 use Rattle.bson.specs.Level.{Opening, closed, opens, opening, Level, outermost, deeper}
 use Rattle.bson.specs.ArrayKey.{goodArrayKey}
 use Rattle.bson.specs.Check.{keyPasses, check, checkUnder}
-use Rattle.bson.specs.Grammar.{levels, isArray, Elements, size, Shallow, ArrayKeys}
+use Rattle.bson.specs.Grammar.{levels, isArray, Elements, size, Shallow, Numbered}
 use Rattle.bson.specs.Meaning.{Holding, single, nested, holding, Yields, MeansFrom, ends, yields, opens as holds, Means}
 use Rattle.bson.specs.Reach.{Spot, spotBehind}
+use Rattle.bson.specs.Decimal.{decimal}
+use Rattle.laws.proofs.BytesLaws.{same-self}
 use Rattle.laws.proofs.Common.{split}
 use Rattle.laws.proofs.ReadLaws.{read-step}
 use Rattle.laws.proofs.CheckLaws.{walkFrom, walk-eq, walk-ends}
@@ -24,15 +26,20 @@ use Rattle.bson.specs.Cstring.{unlimited}
 
 -- what a check asks of the keys in arrays: the plain one nothing
 abbrev pub KeysAsked : Bool → Bool → ℕ → Elements → Type 0
-KeysAsked strict inArray position t = strict ≡ true → ArrayKeys (λ i key. goodArrayKey i key ≡ true) inArray position t
+KeysAsked strict inArray position t = strict ≡ true → Numbered inArray position t
 
 pub plain-asked : (inArray : Bool) (position : ℕ) (t : Elements) → KeysAsked false inArray position t
 plain-asked inArray position t e = absurd (true≢false (sym e))
 
+-- a key in its place is good
+numbered-good : (position : ℕ) (key : List ℕ) → key ≡ decimal position → goodArrayKey position key ≡ true
+unfolding goodArrayKey
+numbered-good position key e = rw e (same-self (decimal position))
+
 key-asked : (strict : Bool) (l : Level) (position : ℕ) (key : List ℕ)
-    → (strict ≡ true → l .isArray ≡ true → goodArrayKey position key ≡ true) → keyPasses strict l position key ≡ true
+    → (strict ≡ true → l .isArray ≡ true → key ≡ decimal position) → keyPasses strict l position key ≡ true
 key-asked strict l position key h =
-    split strict (λ s. split (l .isArray) (λ a. rw (s, a) (h s a)) (λ a. rw (s, a))) (λ s. rw s)
+    split strict (λ s. split (l .isArray) (λ a. rw (s, a) (numbered-good position key (h s a))) (λ a. rw (s, a))) (λ s. rw s)
 
 -- ---- what a value opens
 
@@ -56,7 +63,7 @@ spot s l position offset = record { document = s; level = l; position = position
 -- where a step yields a value that is not too deep, under a key that passes, the walk counts it with those inside, and goes on
 yields-passes : (strict : Bool) (σ : Spot) {key : List ℕ} {tag : ℕ} {h : Holding} (e : Element) (n m : ℕ)
     → Yields (σ .document) (σ .offset) key tag h e → σ .level .depth ≤ 200
-    → (strict ≡ true → σ .level .isArray ≡ true → goodArrayKey (σ .position) key ≡ true)
+    → (strict ≡ true → σ .level .isArray ≡ true → key ≡ decimal (σ .position))
     → Inner unlimited strict σ (openingOf h) n → spotWalk unlimited strict (spotBehind σ e) ≡ gives m
     → spotWalk unlimited strict σ ≡ gives (n + m)
 yields-passes strict σ {h = h} e n m y low key i w =

@@ -17,7 +17,7 @@ use Rattle.theorems.specs.ReadBack.{Open, openOf, Building, unopened, bu
 use Rattle.theorems.specs.ReadBack.{turn, run, sessionStart, Typed, ReadsBack, Stands, WriterReadsBack}
 use Rattle.laws.proofs.DecimalLaws.{decimal-valid}
 use Rattle.laws.proofs.GrammarLaws.{length-document}
-use Rattle.laws.proofs.TreeLaws.{ordered-followed, shallow-followed, keys-followed}
+use Rattle.laws.proofs.TreeLaws.{ordered-followed, shallow-followed, numbered-followed}
 use Rattle.laws.proofs.WriterWords.{fresh-closed}
 use Rattle.laws.proofs.WriterLaws.{possible-says, top-used, innermost-says, Appended, appended-says, opened-says, topped-says, closed-says}
 use Rattle.theorems.proofs.Writer.DeskHolds.{kindFor, Holds}
@@ -50,7 +50,7 @@ sound-with : (o : Open) (level : ℕ) (t : Elements) → Sound o level → InOrd
     → Sound (with o t) level
 sound-with o level t s g n h = record {
   ordered = ordered-followed (o .inside) t (s .ordered) g;
-  numbered = keys-followed (λ i key. key ≡ decimal i) (isArray (embedded (o .nest))) 0 (o .inside) t (s .numbered) (rw zero-add n);
+  numbered = numbered-followed (isArray (embedded (o .nest))) 0 (o .inside) t (s .numbered) (rw zero-add n);
   shallow = shallow-followed level (o .inside) t (s .shallow) h;
 }
 
@@ -158,12 +158,14 @@ module _ (buffer : List ℕ) where
       let c = close-top d e o h q in
       let t = o .inside in
       let means = tree-means t (record { ordered = s .1 .ordered; short = c .small }) in
+      let numbered = subst (λ (b : Bool). Numbered b 0 t) (s .0) (s .1 .numbered) in
       record {
         closed = c .closed;
         bytes = c .bytes;
         means = means;
-        numbered = subst (λ (b : Bool). Numbered b 0 t) (s .0) (s .1 .numbered);
+        numbered = numbered;
         passes = means-passes false (treeBytes t) t means (s .1 .shallow) (plain-asked false 0 t);
+        strict = means-passes true (treeBytes t) t means (s .1 .shallow) (λ e. numbered);
       }
 
   top-kept : (d e : Desk) → d ≡ desk fresh buffer → answer openTop d ≡ gives e → Kept e (building (openOf document [] none) [])
