@@ -62,22 +62,41 @@ impl Garden<'_> {
         }
     }
 
-    /// The elements of an array, whose keys are 0, 1, 2 on but for some.
+    /// The elements of an array, whose keys are 0, 1, 2 on; in one array of three a key is not.
     fn items(&mut self, depth: usize) -> Vec<Element> {
         let mut items = self.elements(depth);
-        if self.rng.once_in(24) {
+        if self.rng.once_in(10) {
             // So many that keys have two digits, or three.
-            let more = self.rng.pick(&[6, 96]) + self.rng.below(6);
+            let more = self.rng.pick(&[8, 8, 98]) + self.rng.below(6);
             items.extend((0..more).map(|_| self.element(DEEPEST)));
         }
         for (index, item) in items.iter_mut().enumerate() {
-            let bad = self.rng.once_in(12);
-            item.key = match bad {
-                true => self.rng.pick(&BAD_ARRAY_KEYS).into(),
-                false => index.to_string().into(),
-            };
+            item.key = index.to_string().into();
+        }
+        if !items.is_empty() && self.rng.once_in(3) {
+            let any = self.rng.below(items.len());
+            // Before and behind a new digit, in arrays that have such.
+            let index = self.rng.pick(&[any, 9, 10, 99, 100]).min(items.len() - 1);
+            items[index].key = self.bad_array_key(index).into();
         }
         items
+    }
+
+    /// Mostly one that is nearly the position in decimal.
+    fn bad_array_key(&mut self, index: usize) -> String {
+        let right = index.to_string();
+        match self.rng.below(9) {
+            0 => (index + 1).to_string(),
+            1 => (index + self.rng.pick(&[2, 10, 100])).to_string(),
+            2 => format!("0{right}"),
+            3 => format!("1{right}"),
+            4 => format!("{right}0"),
+            5 => right[1..].into(),
+            6 => right[..right.len() - 1].into(),
+            // The same number in 32 or in 64 bits.
+            7 => (index as u128 + self.rng.pick(&[1 << 32, 1 << 64])).to_string(),
+            _ => self.rng.pick(&BAD_ARRAY_KEYS).into(),
+        }
     }
 
     fn value(&mut self, depth: usize) -> Value {

@@ -17,7 +17,9 @@ pub fn nest(rng: &mut Rng) -> Draft {
     while reached < depth {
         let tag = rng.pick(&[0x03, 0x04, 0x03, 0x04, 0x0F]);
         reached += if tag == 0x0F { 2 } else { 1 };
-        draft.head(tag, if rng.once_in(500) { b"" } else { b"0" });
+        let bad = rng.once_in(500);
+        let key = rng.pick(&[b"" as &[u8], b"1", b"00"]);
+        draft.head(tag, if bad { key } else { b"0" });
         let scope = (tag == 0x0F).then(|| {
             let start = draft.begin();
             draft.string(b"");
@@ -30,7 +32,7 @@ pub fn nest(rng: &mut Rng) -> Draft {
     draft
 }
 
-/// A value, or one that is refused before its depth is.
+/// A value, or one that is refused before its depth is; under a key that in an array is mostly good.
 fn innermost(draft: &mut Draft, rng: &mut Rng) {
     let (tag, value): (u8, &[u8]) = rng.pick(&[
         (0x0A, b"" as &[u8]),
@@ -41,7 +43,7 @@ fn innermost(draft: &mut Draft, rng: &mut Rng) {
         (0x03, b"\x05\0\0\0\0"),
         (0x0F, b"\x0E\0\0\0\x01\0\0\0\0\x05\0\0\0\0"),
     ]);
-    draft.head(tag, b"0");
+    draft.head(tag, rng.pick(&[b"0", b"0", b"0", b"1"]));
     draft.bytes.extend(value);
 }
 
