@@ -73,7 +73,7 @@ module _ (walk : Walk) (s : List ℕ) (l : Level) (e : Element) where
   unfolding opened
   opened-inside isArray levels inner v d b x w = rw (v, ← b, ← w)
 
--- one whose key is asked for: where it passes nothing else is asked of it, else it is refused with 19
+-- one whose key is asked for: where that passes it is as one whose key is not, else it is refused with 19
 module _ (walk : Walk) (strict : Bool) (s : List ℕ) (l : Level) (position : ℕ) (e : Element) where
   pub opened-keyed : keyPasses strict l position (bytes s (e .key)) ≡ true → opened strict walk s l position e ≡ opened false walk s l 0 e
   unfolding opened
