@@ -10,8 +10,8 @@ use Rattle.bson.specs.Decided.{Point}
 -- ---- documents
 
 -- a document of these elements, of under 251 bytes
-abbrev pub documentOf : List ℕ → List ℕ
-documentOf body = (length body + 5) ∷ 0 ∷ 0 ∷ 0 ∷ body ++ (0 ∷ [])
+abbrev pub shortDocument : List ℕ → List ℕ
+shortDocument body = (length body + 5) ∷ 0 ∷ 0 ∷ 0 ∷ body ++ (0 ∷ [])
 
 -- an element by its tag, its key and its value's bytes
 abbrev pub elementOf : ℕ → List ℕ → List ℕ → List ℕ
@@ -24,10 +24,10 @@ nulls (key ∷ keys) = elementOf 0x0A key [] ++ nulls keys
 
 -- an array of these elements, and code of no letter with this scope
 abbrev pub arrayOf : List ℕ → List ℕ → List ℕ
-arrayOf key body = elementOf 0x04 key (documentOf body)
+arrayOf key body = elementOf 0x04 key (shortDocument body)
 
 abbrev pub scopeWith : List ℕ → List ℕ → List ℕ
-scopeWith key body = elementOf 0x0F key ((length body + 14) ∷ 0 ∷ 0 ∷ 0 ∷ 0x01 ∷ 0 ∷ 0 ∷ 0 ∷ 0 ∷ documentOf body)
+scopeWith key body = elementOf 0x0F key ((length body + 14) ∷ 0 ∷ 0 ∷ 0 ∷ 0x01 ∷ 0 ∷ 0 ∷ 0 ∷ 0 ∷ shortDocument body)
 
 -- the keys `0`, `1`, `7` and `a`
 abbrev pub zeroth : List ℕ
@@ -49,7 +49,7 @@ tenKeys =
 
 -- the strict check of a document that has one array, under the key `a`: its first element stands at 11
 abbrev pub strictOf : List ℕ → Answer ℕ
-strictOf body = check true (documentOf (arrayOf letter body))
+strictOf body = check true (shortDocument (arrayOf letter body))
 
 -- ---- keys
 
@@ -57,7 +57,7 @@ unfoldable pub keyPoints : List Point
 keyPoints =
     -- 0, 0, 7: the second differs; the plain check asks for none
     (strictOf (nulls (zeroth ∷ zeroth ∷ seventh ∷ [])), refuses 19 14)
-    ∷ (check false (documentOf (arrayOf letter (nulls (zeroth ∷ zeroth ∷ seventh ∷ [])))), gives 4)
+    ∷ (check false (shortDocument (arrayOf letter (nulls (zeroth ∷ zeroth ∷ seventh ∷ [])))), gives 4)
     -- no element; 0, 1
     ∷ (strictOf [], gives 1)
     ∷ (strictOf (nulls (zeroth ∷ first ∷ [])), gives 3)
@@ -92,7 +92,7 @@ levelPoints =
     ∷ (strictOf (arrayOf zeroth (nulls (zeroth ∷ [])) ++ nulls (first ∷ [])), gives 4)
     ∷ (strictOf (arrayOf zeroth (nulls (zeroth ∷ [])) ++ nulls (zeroth ∷ [])), refuses 19 22)
     -- never of a document or a scope, be it in an array; of an array in a scope in an array
-    ∷ (strictOf (elementOf 0x03 zeroth (documentOf (nulls (seventh ∷ [])))), gives 3)
+    ∷ (strictOf (elementOf 0x03 zeroth (shortDocument (nulls (seventh ∷ [])))), gives 3)
     ∷ (strictOf (scopeWith zeroth (nulls (seventh ∷ []))), gives 3)
     ∷ (strictOf (scopeWith zeroth (arrayOf letter (nulls (zeroth ∷ [])))), gives 4)
     ∷ (strictOf (scopeWith zeroth (arrayOf letter (nulls (first ∷ [])))), refuses 19 34)
@@ -102,7 +102,7 @@ levelPoints =
 
 -- the strict walk of an array whose values lie at this depth
 abbrev pub strictAt : ℕ → List ℕ → Answer ℕ
-strictAt depth body = walk true (documentOf body) (record { isArray = true; base = 0; depth = depth })
+strictAt depth body = walk true (shortDocument body) (record { isArray = true; base = 0; depth = depth })
 
 unfoldable pub orderPoints : List Point
 orderPoints =
