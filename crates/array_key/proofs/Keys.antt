@@ -46,7 +46,8 @@ module _ (key : List ℕ) (position : ℕ) (some : 0 < length key) where
   -- of more digits the last one is the last byte, and the others come before it
   module _ (h : 10 ≤ position) where
     last-is : eqb (getD key last 0) (48 + position % 10) && goodArrayKey (position / 10) (take last key) ≡ goodArrayKey position key
-    last-is = rw (good-same (position / 10) (take last key)) (apart (decimal (position / 10)) (48 + position % 10) (decimal-last position h))
+    last-is =
+        rw (good-same (position / 10) (take last key)) (apart (decimal (position / 10)) (48 + position % 10) (decimal-last position h))
 
     pub last-differs : (getD key last 0 ≡ 48 + position % 10 → ⊥) → false ≡ goodArrayKey position key
     last-differs e = rw (ne-eqb _ _ e) at last-is

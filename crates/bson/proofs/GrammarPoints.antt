@@ -15,7 +15,8 @@ abbrev front : List ℕ → ℕ
 front key = getD key 0 0
 
 pub grammar-points-hold : GrammarPoints
-unfolding digits widthFor width decimal rows utf8 bytes32 bytes64 unsigned stringBytes scopeBytes row elementBytes documentOf listBytes written
+unfolding digits widthFor width decimal rows utf8 bytes32 bytes64 unsigned stringBytes scopeBytes row elementBytes documentOf listBytes
+    written
 grammar-points-hold =
     record {
       bytes = refl;

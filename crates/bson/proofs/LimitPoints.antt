@@ -21,6 +21,6 @@ pub limit-points-hold : Hold keyPoints × Hold regexPoints × Hold nestedPoints 
 unfolding le32 bytes rows utf8 zeroText cstringUnder tags rowOf lengthField fits zeroEnded stringSize documentSize scopeSize
     patternOptionsUnder regexSizeUnder framedUnder valueSizeUnder admitted elementUnder stepUnder keyAtUnder iterateFor iterateUnder text
     scopeValue content valueIn valueOf elementAtUnder readAtUnder readWithUnder partsOf partAtUnder found getUnder getBytesUnder
-    getWithUnder getPartUnder digits widthFor width decimal goodArrayKey opening visit opened walkFor walkUnder checkUnder keyPoints regexPoints nestedPoints callPoints
-    unlimitedPoints
+    getWithUnder getPartUnder digits widthFor width decimal goodArrayKey opening visit opened walkFor walkUnder checkUnder keyPoints
+    regexPoints nestedPoints callPoints unlimitedPoints
 limit-points-hold = (refl, refl, refl, refl, refl)

@@ -5,29 +5,22 @@ use mathlib.Core.Bool.{true, false}
 use lib.ListN.{length}
 use Rattle.bson.specs.Answer.{Answer, gives, refuses}
 use Rattle.bson.specs.Check.{walk, check}
+use Rattle.bson.specs.Grammar.{elementBytes, documentOf}
 use Rattle.bson.specs.Decided.{Point}
 
 -- ---- documents
 
--- a document of these elements, of under 251 bytes
-abbrev pub shortDocument : List ℕ → List ℕ
-shortDocument body = (length body + 5) ∷ 0 ∷ 0 ∷ 0 ∷ body ++ (0 ∷ [])
-
--- an element by its tag, its key and its value's bytes
-abbrev pub elementOf : ℕ → List ℕ → List ℕ → List ℕ
-elementOf tag key value = tag ∷ key ++ (0 ∷ value)
-
 -- nulls under these keys
 abbrev pub nulls : List (List ℕ) → List ℕ
 nulls [] = []
-nulls (key ∷ keys) = elementOf 0x0A key [] ++ nulls keys
+nulls (key ∷ keys) = elementBytes 0x0A key [] ++ nulls keys
 
 -- an array of these elements, and code of no letter with this scope
 abbrev pub arrayOf : List ℕ → List ℕ → List ℕ
-arrayOf key body = elementOf 0x04 key (shortDocument body)
+arrayOf key body = elementBytes 0x04 key (documentOf body)
 
 abbrev pub scopeWith : List ℕ → List ℕ → List ℕ
-scopeWith key body = elementOf 0x0F key ((length body + 14) ∷ 0 ∷ 0 ∷ 0 ∷ 0x01 ∷ 0 ∷ 0 ∷ 0 ∷ 0 ∷ shortDocument body)
+scopeWith key body = elementBytes 0x0F key ((length body + 14) ∷ 0 ∷ 0 ∷ 0 ∷ 0x01 ∷ 0 ∷ 0 ∷ 0 ∷ 0 ∷ documentOf body)
 
 -- the keys `0`, `1`, `7` and `a`
 abbrev pub zeroth : List ℕ
@@ -49,7 +42,7 @@ tenKeys =
 
 -- the strict check of a document that has one array, under the key `a`: its first element stands at 11
 abbrev pub strictOf : List ℕ → Answer ℕ
-strictOf body = check true (shortDocument (arrayOf letter body))
+strictOf body = check true (documentOf (arrayOf letter body))
 
 -- ---- keys
 
@@ -57,7 +50,7 @@ unfoldable pub keyPoints : List Point
 keyPoints =
     -- 0, 0, 7: the second differs; the plain check asks for none
     (strictOf (nulls (zeroth ∷ zeroth ∷ seventh ∷ [])), refuses 19 14)
-    ∷ (check false (shortDocument (arrayOf letter (nulls (zeroth ∷ zeroth ∷ seventh ∷ [])))), gives 4)
+    ∷ (check false (documentOf (arrayOf letter (nulls (zeroth ∷ zeroth ∷ seventh ∷ [])))), gives 4)
     -- no element; 0, 1
     ∷ (strictOf [], gives 1)
     ∷ (strictOf (nulls (zeroth ∷ first ∷ [])), gives 3)
@@ -92,7 +85,7 @@ levelPoints =
     ∷ (strictOf (arrayOf zeroth (nulls (zeroth ∷ [])) ++ nulls (first ∷ [])), gives 4)
     ∷ (strictOf (arrayOf zeroth (nulls (zeroth ∷ [])) ++ nulls (zeroth ∷ [])), refuses 19 22)
     -- never of a document or a scope, be it in an array; of an array in a scope in an array
-    ∷ (strictOf (elementOf 0x03 zeroth (shortDocument (nulls (seventh ∷ [])))), gives 3)
+    ∷ (strictOf (elementBytes 0x03 zeroth (documentOf (nulls (seventh ∷ [])))), gives 3)
     ∷ (strictOf (scopeWith zeroth (nulls (seventh ∷ []))), gives 3)
     ∷ (strictOf (scopeWith zeroth (arrayOf letter (nulls (zeroth ∷ [])))), gives 4)
     ∷ (strictOf (scopeWith zeroth (arrayOf letter (nulls (first ∷ [])))), refuses 19 34)
@@ -102,17 +95,17 @@ levelPoints =
 
 -- the strict walk of an array whose values lie at this depth
 abbrev pub strictAt : ℕ → List ℕ → Answer ℕ
-strictAt depth body = walk true (shortDocument body) (record { isArray = true; base = 0; depth = depth })
+strictAt depth body = walk true (documentOf body) (record { isArray = true; base = 0; depth = depth })
 
 unfoldable pub orderPoints : List Point
 orderPoints =
     -- behind the step: a key that is no UTF-8, a tag in no row, a value that is cut
-    (strictOf (elementOf 0x0A (0xFF ∷ []) []), refuses 6 11)
-    ∷ (strictOf (elementOf 0x14 letter []), refuses 7 11)
-    ∷ (strictOf (elementOf 0x10 letter []), refuses 9 11)
+    (strictOf (elementBytes 0x0A (0xFF ∷ []) []), refuses 6 11)
+    ∷ (strictOf (elementBytes 0x14 letter []), refuses 7 11)
+    ∷ (strictOf (elementBytes 0x10 letter []), refuses 9 11)
     -- before the reading, here of a boolean of 2, and before the depth
-    ∷ (strictOf (elementOf 0x08 letter (0x02 ∷ [])), refuses 19 11)
-    ∷ (strictOf (elementOf 0x08 zeroth (0x02 ∷ [])), refuses 11 11)
+    ∷ (strictOf (elementBytes 0x08 letter (0x02 ∷ [])), refuses 19 11)
+    ∷ (strictOf (elementBytes 0x08 zeroth (0x02 ∷ [])), refuses 11 11)
     ∷ (strictAt 201 (nulls (letter ∷ [])), refuses 19 4)
     ∷ (strictAt 201 (nulls (zeroth ∷ [])), refuses 13 4)
     ∷ []

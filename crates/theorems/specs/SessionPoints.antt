@@ -2,12 +2,15 @@
 use Prim.Native.Nat.{ℕ}
 use mathlib.Core.Path.{_≡_}
 use mathlib.Core.List.{List, [], _∷_}
+use mathlib.Core.Bool.{true}
 use lib.ListN.{take}
+use Rattle.bson.specs.Answer.{gives}
+use Rattle.bson.specs.Check.{check}
 use Rattle.bson.specs.Value.{null}
 use Rattle.bson.specs.Grammar.{document, array, embedded, Elements, none, leaf, nest, treeBytes}
 use Rattle.bson.specs.Writer.{used, Desk, Call, openTop, close, append, openNest}
 use Rattle.bson.specs.WriterPoints.{blank, zeroKey}
-use Rattle.theorems.specs.ReadBack.{openOf, Building, unopened, building, built, keyFor, Session, run, sessionStart}
+use Rattle.theorems.specs.ReadBack.{openOf, Building, unopened, building, built, keyFor, Session, run, sessionStart, ReadsBack}
 
 -- "begun fresh", in a buffer that has room for all
 abbrev pub sessionOf : List Call → Session
@@ -39,6 +42,8 @@ pub record SessionPoints : Type 0 where
   pub at-last : made (openTop ∷ append (0x61 ∷ []) null ∷ close ∷ []) ≡ built (nullAt (0x61 ∷ []) none)
   pub nested : made nestedCalls ≡ built nestedTree
   pub nested-bytes : usedBytes (sessionOf nestedCalls .left) ≡ treeBytes nestedTree
+  -- and reading back says that it passes the strict check, with three values
+  pub nested-strict : (d : Desk) → ReadsBack d nestedTree → check true (treeBytes nestedTree) ≡ gives 3
   -- refused calls leave the tree: before the top is opened, for a zero in a key, and when it is closed
   pub too-early : made (append [] null ∷ close ∷ []) ≡ unopened
   pub zero-in-key : made (openTop ∷ append zeroKey null ∷ close ∷ []) ≡ built none

@@ -61,7 +61,8 @@ fn opening_of(value: Value) -> Opening
 
 // The reading, the depth (13), in this order. No key is asked for, so it is at no position.
 pub fn visit(s: &[u8], level: Level, element: Element) -> Visited
-    ensures { λ r. ⌜ saidVisited (level .base + element .place) r ≡ visitOf false (now (s .entry)) (saidLevel level) 0 (saidElement element) ⌝ }
+    ensures { λ r. ⌜ saidVisited (level .base + element .place) r
+        ≡ visitOf false (now (s .entry)) (saidLevel level) 0 (saidElement element) ⌝ }
 {
     // a part of its own, so that the element beside it need not lie in memory
     let framed = element.value;

@@ -137,7 +137,8 @@ fn tell(level: Level, tag: u8) -> Framed
 // Visits a value that a step yielded, and reads it only where framing has not told enough.
 fn visit_framed(s: &[u8], level: Level, element: Element) -> Visited
     requires { ⌜ FramedAt (now s) (cursor (element .place) false) (saidElement element) ⌝ }
-    ensures { λ r. ⌜ saidVisited (level .base + element .place) r ≡ visitOf false (now (s .entry)) (saidLevel level) 0 (saidElement element) ⌝ }
+    ensures { λ r. ⌜ saidVisited (level .base + element .place) r
+        ≡ visitOf false (now (s .entry)) (saidLevel level) 0 (saidElement element) ⌝ }
 {
     let inner = element.value;
     match tell(level, element.tag) {

@@ -38,6 +38,7 @@ session-points-hold =
       at-last = refl;
       nested = refl;
       nested-bytes = refl;
+      nested-strict = λ d r. r .strict;
       too-early = refl;
       zero-in-key = refl;
       too-late = refl;

@@ -247,8 +247,7 @@ walk-document-asked : (t : ℕ) (c : walk-document-lts.Joined1 (walk-calls t) (w
 walk-document-asked t c =
     let i = c .before .before .before .before .before .loop .inv in
     ⊎-elim
-    (λ w. let b : walk-document-lts.Then1 (walk-calls t) (walk-at t) walk-document.Post Inv-loop μ-loop = record { before = c .before; if1 = w .0 } in
-    let k = walk-document-key t (record { before = b; key-passes = w .1 }) in
+    (λ w. let k = walk-document-key t (record { before = record { before = c .before; if1 = w .0 }; key-passes = w .1 }) in
     asked-passes _ _ _ _ _ _ (w .0 .taken) (i .5 (w .0 .taken)) (sym k ∙ w .2 .taken) (w .3))
     (λ w. not-asked _ _ _ _ _ _ (w .0 .left) (w .1))
     (c .if1 .came)
@@ -267,8 +266,8 @@ walk-document-opened : (t : ℕ) (c : walk-document-lts.After-open-value (walk-c
     → let e = c .before .before .before in
     let a = e .before .before .before .before .before .before .before .args in
     said (c .open-value .result)
-    ≡ opened (a .strict) (walkUnder (limitOf (a .limit)) (a .strict)) (a .s .now) (saidLevel (a .level)) (e .before .before .before .loop .inv .1)
-    (saidElement (e .element .given .0 .0))
+    ≡ opened (a .strict) (walkUnder (limitOf (a .limit)) (a .strict)) (a .s .now) (saidLevel (a .level))
+    (e .before .before .before .loop .inv .1) (saidElement (e .element .given .0 .0))
 walk-document-opened t c =
     let e = c .before .before .before in
     let o = c .open-value .ensures in
@@ -285,8 +284,8 @@ walk-document-brings : (t : ℕ) (c : walk-document-lts.After-values (walk-calls
     → let e = c .before .before .before .before .before in
     let a = e .before .before .before .before .before .before .before .args in
     gives (c .values .given .0 .0)
-    ≡ opened (a .strict) (walkUnder (limitOf (a .limit)) (a .strict)) (a .s .now) (saidLevel (a .level)) (e .before .before .before .loop .inv .1)
-    (saidElement (e .element .given .0 .0))
+    ≡ opened (a .strict) (walkUnder (limitOf (a .limit)) (a .strict)) (a .s .now) (saidLevel (a .level))
+    (e .before .before .before .loop .inv .1) (saidElement (e .element .given .0 .0))
 walk-document-brings t c = sym (answered said (walk-document-opened t (c .before .before)) (c .values .given .1))
 
 -- they are fewer than its bytes, and the next element begins behind it
