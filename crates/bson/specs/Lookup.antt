@@ -7,7 +7,7 @@ use Rattle.bson.specs.Answer.{Answer, gives, refuses, then, at}
 use Rattle.bson.specs.Bytes.{bytes, same}
 use Rattle.bson.specs.Step.{terminator, admitted, Element, handed, Iteration, ended, broken, more, iterateUnder}
 use Rattle.bson.specs.Cstring.{Limit, unlimited}
-use Rattle.bson.specs.Value.{Value, valueOf, ofTag, Which, partOf}
+use Rattle.bson.specs.Value.{Value, valueOf, elementAtUnder, ofTag, Which, partOf}
 
 -- what a lookup finds: the element and its value
 pub record Found : Type 0 where
@@ -41,6 +41,10 @@ getBytesUnder limit s key = handed s (then (getUnder limit s key) λ f. gives (f
 unfoldable pub getWithUnder : Limit → List ℕ → List ℕ → ℕ → Answer Found
 getWithUnder limit s key tag = then (getUnder limit s key) λ f. ofTag (f .element) tag f
 
+-- the element at a place, and its value: "steps there first, then reads" (`get-at-value`)
+unfoldable pub getAtUnder : Limit → List ℕ → ℕ → Answer Found
+getAtUnder limit s place = then (elementAtUnder limit s place) (found s)
+
 -- without a limit
 abbrev pub get : List ℕ → List ℕ → Answer Found
 get s key = getUnder unlimited s key
@@ -50,6 +54,9 @@ getBytes s key = getBytesUnder unlimited s key
 
 abbrev pub getWith : List ℕ → List ℕ → ℕ → Answer Found
 getWith s key tag = getWithUnder unlimited s key tag
+
+abbrev pub getAt : List ℕ → ℕ → Answer Found
+getAt s place = getAtUnder unlimited s place
 
 -- a typed getter gives the number that the framed bytes hold
 abbrev pub typed : {A : Type 0} → (List ℕ → Answer A) → List ℕ → List ℕ → ℕ → Answer A

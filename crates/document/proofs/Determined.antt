@@ -23,6 +23,10 @@ use Rattle.document.proofs.get_element_under.Reads as get-element-under
 use Rattle.document.proofs.get_element_under.Kinds as get-element-under-kinds
 use Rattle.document.proofs.get_element.Reads as get-element-reads
 use Rattle.document.proofs.get_element.Kinds as get-element-kinds
+use Rattle.document.proofs.element_at_under.Reads as element-at-under-reads
+use Rattle.document.proofs.element_at_under.Kinds as element-at-under-kinds
+use Rattle.document.proofs.element_at.Reads as element-at-reads
+use Rattle.document.proofs.element_at.Kinds as element-at-kinds
 use Rattle.document.proofs.get_under.Reads as get-under-reads
 use Rattle.document.proofs.get_under.Kinds as get-under-kinds
 use Rattle.document.proofs.get.Reads as get-reads
@@ -63,6 +67,12 @@ get-element-under-determined κs a r₁ r₂ s₁ s₂ p q = injective-by said u
 
 pub get-element-determined : (κs : Lfts 2) (a : Dens κs get-element-kinds.ps) → Determined (get-element-reads.Post κs a)
 get-element-determined κs a r₁ r₂ s₁ s₂ p q = injective-by said unsaidFound found-again r₁ r₂ (p ∙ sym q)
+
+pub element-at-under-determined : (κs : Lfts 1) (a : Dens κs element-at-under-kinds.ps) → Determined (element-at-under-reads.Post κs a)
+element-at-under-determined κs a r₁ r₂ s₁ s₂ p q = injective-by said unsaidFound found-again r₁ r₂ (p ∙ sym q)
+
+pub element-at-determined : (κs : Lfts 1) (a : Dens κs element-at-kinds.ps) → Determined (element-at-reads.Post κs a)
+element-at-determined κs a r₁ r₂ s₁ s₂ p q = injective-by said unsaidFound found-again r₁ r₂ (p ∙ sym q)
 
 pub get-under-determined : (κs : Lfts 2) (a : Dens κs get-under-kinds.ps) → DeterminedPart now (get-under-reads.Post κs a)
 get-under-determined κs a r₁ r₂ s₁ s₂ p q = p ∙ sym q

@@ -3,7 +3,7 @@ ghost use mathlib.Core.Path.{_≡_};
 ghost use Rattle.bson.specs.Answer.{then};
 ghost use Rattle.bson.specs.Step.{admitted};
 ghost use Rattle.bson.specs.Lookup.{found as foundIn, getUnder, getBytesUnder, getWithUnder, getPartUnder, get as lookup, getBytes};
-ghost use Rattle.bson.specs.Lookup.{getWith, getPart, isEmpty};
+ghost use Rattle.bson.specs.Lookup.{getAtUnder, getWith, getAt, getPart, isEmpty};
 ghost use Rattle.bson.specs.Value.{ofTag};
 ghost use Rattle.cstr.specs.Said.{limitOf};
 ghost use Rattle.iter.specs.Said.{saidElement};
@@ -12,6 +12,7 @@ ghost use Rattle.document.specs.Said.{saidAdmission, saidEmpty, said, re
 use iter::Element;
 use iter::Sizes;
 use part::Length;
+use reading::Located;
 use reading::Reading;
 use reading::Which;
 use value::Value;
@@ -136,6 +137,23 @@ pub fn get_element(s: &[u8], key: &[u8]) -> Found
     ensures { λ r. ⌜ said r ≡ lookup (now (s .entry)) (now (key .entry)) ⌝ }
 {
     get_element_under(s, key, cstr::NO_LIMIT)
+}
+
+// The element at a place and its value: the step's refusals, 16 at the terminator, then the value's.
+pub fn element_at_under(s: &[u8], place: usize, limit: usize) -> Found
+    ensures { λ r. ⌜ said r ≡ getAtUnder (limitOf limit) (now (s .entry)) place ⌝ }
+{
+    match reading::locate(s, place, limit) {
+        Located::Refused { number, place } => Found::Refused { number, place },
+        Located::Is(element) => read_element(s, element),
+    }
+}
+
+// The same without a limit.
+pub fn element_at(s: &[u8], place: usize) -> Found
+    ensures { λ r. ⌜ said r ≡ getAt (now (s .entry)) place ⌝ }
+{
+    element_at_under(s, place, cstr::NO_LIMIT)
 }
 
 // The value's framed bytes, as a part of the document; empty where `get_element_under`, its twin, refuses.

@@ -8,17 +8,17 @@ use lib.IntN.{ℤ}
 use lib.ListN.{length}
 use lib.Dec.{leb, eqb}
 use borrow.Author.Tests.{eqb-true}
-use Rattle.bson.specs.Answer.{Answer, gives, refuses, at}
+use Rattle.bson.specs.Answer.{Answer, gives, refuses, then, at}
 use Rattle.bson.specs.Bytes.{le64, i32, i64, Part, bytes, same}
 use Rattle.bson.specs.Cstring.{Limit}
 use Rattle.bson.specs.Tags.{ElementType, Boolean, Int32, Double, Int64, DateTime, Timestamp, tags, rowOf, typeOf}
 use Rattle.bson.specs.Framing.{inFront}
 use Rattle.bson.specs.Step.{cursor, Element, past, Step, yield, end, stepUnder, Iteration, onward, iterateFor, iterateUnder}
 use Rattle.bson.specs.Value.{Leaf, leaf, boolean, int32, int64, dateTime, double, timestamp, asLeaf, bool, timestampOf, content, valueIn}
-use Rattle.bson.specs.Value.{valueOf, readAtUnder}
-use Rattle.bson.specs.Lookup.{Found, found, first, getUnder, getWithUnder, getWith, typed}
+use Rattle.bson.specs.Value.{Value, valueOf, elementAtUnder, readAtUnder}
+use Rattle.bson.specs.Lookup.{Found, found, first, getUnder, getWithUnder, getAtUnder, getWith, typed}
 use Rattle.laws.proofs.AnswerLaws.{never, gives-injective, unless-gives, then-gives, at-gives}
-use Rattle.laws.proofs.ReadLaws.{read-step}
+use Rattle.laws.proofs.ReadLaws.{read-step, element-at-says}
 use Rattle.laws.proofs.Common.{split}
 use Rattle.laws.proofs.AdvanceLaws.{ended-at}
 use Rattle.laws.proofs.StepLaws.{step-yields, iterate-eq}
@@ -90,6 +90,40 @@ module _ (limit : Limit) (s key : List ℕ) (f : Found) where
     get-inside =
         let y = step-yields limit s _ (f .element) (get-finds .steps) in
         (y .inside, parts-inside s _ (f .element) y (f .value) (get-finds .reads))
+
+-- ---- at a place
+
+-- the value of what is had at a place is what a reading there gives
+read-value : (e : Element) (y : Answer Value)
+    → then {A = Found} (then y λ v. gives (record { element = e; value = v })) (λ f. gives (f .value)) ≡ y
+read-value e (gives v) = refl
+read-value e (refuses n p) = refl
+
+found-value : (s : List ℕ) (x : Answer Element) → then (then x (found s)) (λ f. gives (f .value)) ≡ then x (valueOf s)
+unfolding found
+found-value s (gives e) = read-value e (valueOf s e)
+found-value s (refuses n p) = refl
+
+module _ (limit : Limit) (s : List ℕ) where
+  pub get-at-value : (place : ℕ) → then (getAtUnder limit s place) (λ f. gives (f .value)) ≡ readAtUnder limit s place
+  unfolding getAtUnder readAtUnder
+  get-at-value place = found-value s (elementAtUnder limit s place)
+
+  -- it is found as a lookup finds
+  pub get-at-finds : (place : ℕ) (f : Found) → getAtUnder limit s place ≡ gives f → (f .element .place ≡ place) × FoundAt limit s f
+  unfolding getAtUnder found
+  get-at-finds place f x =
+      let (e, q, h) = then-gives (elementAtUnder limit s place) _ x in
+      let (v, r, g) = then-gives (valueOf s e) _ h in
+      let y = element-at-says limit s place e q in
+      let placed = step-yields limit s (cursor place false) e y .placed in
+      let there = subst (λ (p : ℕ). stepUnder limit s (cursor p false) ≡ gives (yield e)) (sym placed) y in
+      subst (λ (d : Found). (d .element .place ≡ place) × FoundAt limit s d) (gives-injective g) (placed, record { steps = there; reads = r })
+
+  -- so what a lookup finds is had at its place
+  pub had-there : (f : Found) → FoundAt limit s f → getAtUnder limit s (f .element .place) ≡ gives f
+  unfolding getAtUnder elementAtUnder found
+  had-there f a = rw (a .steps, a .reads)
 
 -- ---- with a tag
 

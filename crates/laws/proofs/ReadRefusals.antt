@@ -19,7 +19,7 @@ use Rattle.bson.specs.Step.{terminator, admitted, Cursor, cursor, Element, past
 use Rattle.bson.specs.Step.{Iteration, ended, broken, more, onward, iterateFor, iterateUnder}
 use Rattle.bson.specs.Value.{bool, timestampOf, text, declaresData, binaryValue, scopeValue, content, valueIn, valueOf, ofTag}
 use Rattle.bson.specs.Value.{elementAtUnder, readAtUnder, readWithUnder}
-use Rattle.bson.specs.Lookup.{found, first, getUnder, getWithUnder, isEmpty}
+use Rattle.bson.specs.Lookup.{found, first, getUnder, getWithUnder, isEmpty, getAtUnder}
 use Rattle.bson.specs.Level.{Opening, closed, opens, Level, outermost}
 use Rattle.bson.specs.Check.{Walk, keyPasses, visit, inside, opened, along, walkFor, walkUnder, checkUnder, check}
 use Rattle.bson.specs.Join.{Outcome, wrote, refused, Joined, passing, sizeOfBoth, bothPut, join}
@@ -281,6 +281,10 @@ module _ (limit : Limit) where
   read-with-in s place tag =
       then-in (weaken (reads-typed limit) (at-place-in s place)) λ e q.
       then-in (weaken refl (value-at-in s place e q)) (λ v r. of-tag-in e tag v)
+
+  pub get-at-in : (s : List ℕ) (place : ℕ) → RefusesIn (reads limit) (getAtUnder limit s place)
+  unfolding getAtUnder found
+  get-at-in s place = then-in (at-place-in s place) λ e q. then-in (weaken refl (value-at-in s place e q)) (λ v r. given)
 
   -- ---- iteration and lookup
 

@@ -5,18 +5,24 @@ use borrow.Fn.Kinds.{Dens}
 use denote.Ref.{now}
 use Rattle.bson.specs.Answer.{Answer}
 use Rattle.bson.specs.Bytes as bytes
+use Rattle.bson.specs.Step as step
 use Rattle.bson.specs.Value as paper
 use Rattle.laws.proofs.Determined.{Determined, DeterminedPart, injective-by, unsaidAt}
+use Rattle.iter.proofs.Determined.{unsaidElement}
 use Rattle.part.specs.declared.Part.{Part}
 use Rattle.part.specs.Said.{saidPart}
 use Rattle.part.proofs.Determined.{unsaidPart}
 use Rattle.value.proofs.Determined.{unsaidValue, value-again}
-use Rattle.reading.specs.Said.{said, saidParts}
+use Rattle.reading.specs.Said.{said, saidLocated, saidParts}
 use Rattle.reading.specs.declared.Reading.{Reading}
 use Rattle.reading.specs.declared.Reading.the-variants.{Is, Refused}
+use Rattle.reading.specs.declared.Located.{Located}
+use Rattle.reading.specs.declared.Located.the-variants as located
 use Rattle.reading.specs.declared.TwoParts.{TwoParts}
 use Rattle.reading.proofs.value_of.Reads as value-of-reads
 use Rattle.reading.proofs.value_of.Kinds as value-of-kinds
+use Rattle.reading.proofs.locate.Reads as locate-reads
+use Rattle.reading.proofs.locate.Kinds as locate-kinds
 use Rattle.reading.proofs.read_at_under.Reads as read-at-under-reads
 use Rattle.reading.proofs.read_at_under.Kinds as read-at-under-kinds
 use Rattle.reading.proofs.read_at.Reads as read-at-reads
@@ -55,6 +61,18 @@ use Rattle.reading.proofs.parts.scope_code.Reads as scope-code-reads
 use Rattle.reading.proofs.parts.scope_code.Kinds as scope-code-kinds
 use Rattle.reading.proofs.parts.scope.Reads as scope-reads
 use Rattle.reading.proofs.parts.scope.Kinds as scope-kinds
+
+-- ---- the element at a place
+
+abbrev unsaidLocated : Answer step.Element → Located
+unsaidLocated = unsaidAt (λ e. located.Is (unsaidElement e)) located.Refused
+
+located-again : (r : Located) → unsaidLocated (saidLocated r) ≡ r
+located-again (located.Is e) = refl
+located-again (located.Refused number place) = refl
+
+pub locate-determined : (κs : Lfts 1) (a : Dens κs locate-kinds.ps) → Determined (locate-reads.Post κs a)
+locate-determined κs a r₁ r₂ s₁ s₂ p q = injective-by saidLocated unsaidLocated located-again r₁ r₂ (p ∙ sym q)
 
 -- ---- readings
 

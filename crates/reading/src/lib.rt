@@ -62,13 +62,13 @@ fn value_with(s: &[u8], element: Element, tag: u8) -> Reading
 }
 
 // The element at a place, or the number and the place of the refusal.
-enum Located {
+pub enum Located {
     Is(Element),
     Refused { number: u8, place: usize },
 }
 
 // Steps to a place: the step's refusals, and 16 at the terminator.
-fn locate(s: &[u8], place: usize, limit: usize) -> Located
+pub fn locate(s: &[u8], place: usize, limit: usize) -> Located
     ensures { λ r. ⌜ saidLocated r ≡ elementAtUnder (limitOf limit) (now (s .entry)) place ⌝ }
 {
     let cursor = Cursor {
