@@ -22,17 +22,17 @@ static double best(int copied)
     static const uint8_t key[] = "cell";
     double least = 1e9;
     for (int round = 0; round < ROUNDS; round++) {
-        fringewell_writer writer = fringewell_writer_new();
-        fringewell_writer copy;
-        fringewell_writer_open(&writer, out, ROOM);
+        fringewell_state state = fringewell_state_new();
+        fringewell_state copy;
+        fringewell_state_open(&state, out, ROOM);
         double start = seconds();
         for (int i = 0; i < APPENDS; i++) {
             if (copied) {
-                memcpy(&copy, &writer, sizeof copy);
-                fringewell_append_null(&copy, out, ROOM, key, 4);
-                memcpy(&writer, &copy, sizeof copy);
+                memcpy(&copy, &state, sizeof copy);
+                fringewell_state_append_null(&copy, out, ROOM, key, 4);
+                memcpy(&state, &copy, sizeof copy);
             } else {
-                fringewell_append_null(&writer, out, ROOM, key, 4);
+                fringewell_state_append_null(&state, out, ROOM, key, 4);
             }
         }
         double each = (seconds() - start) * 1e9 / APPENDS;

@@ -4,6 +4,7 @@
 #include <sched.h>
 #include <stdio.h>
 #include <stdlib.h>
+#include <string.h>
 
 #include "fringewell.h"
 
@@ -68,35 +69,34 @@ static uint64_t held(const fringewell_value *value)
     }
 }
 
-static fringewell_value value_of(const uint8_t *bytes, size_t length, const fringewell_stepped *step)
-{
-    return fringewell_value_of(bytes, length, step->place, (uint8_t)step->tag, step->offset, step->size);
-}
-
-// every step and every value of the top; inlined, so that a turn does not ask again by which call it reads
-static inline __attribute__((always_inline)) uint64_t top(size_t length, bool at_place)
+// every step and every value of the top, in one call; an answer is declared inside the loop, since some compilers copy one that is assigned
+static uint64_t iterate(const struct row *row)
 {
     uint64_t sum = 0;
-    for (size_t offset = 4;;) {
-        fringewell_stepped step = fringewell_step(document, length, offset, false);
-        need(step.number == FRINGEWELL_OK, "every step is answered");
-        if (step.ended)
+    for (size_t offset = FRINGEWELL_START;;) {
+        fringewell_element at = fringewell_next(document, row->length, offset, false);
+        need(at.value.number == FRINGEWELL_OK, "every step is answered and every value read");
+        if (at.ended)
             return sum;
-        fringewell_value value = at_place ? fringewell_read(document, length, step.place) : value_of(document, length, &step);
-        need(value.number == FRINGEWELL_OK, "every value is read");
-        sum += step.tag + step.key_size + held(&value);
-        offset = step.next;
+        sum += at.value.tag + at.key_size + held(&at.value);
+        offset = at.next;
     }
 }
 
-static uint64_t iterate(const struct row *row)
-{
-    return top(row->length, false);
-}
-
+// the same in two calls: a step, and a reading at its place, which steps there again
 static uint64_t read_at_place(const struct row *row)
 {
-    return top(row->length, true);
+    uint64_t sum = 0;
+    for (size_t offset = FRINGEWELL_START;;) {
+        fringewell_stepped at = fringewell_step(document, row->length, offset, false);
+        need(at.number == FRINGEWELL_OK, "every step is answered");
+        if (at.ended)
+            return sum;
+        fringewell_value value = fringewell_read(document, row->length, at.place);
+        need(value.number == FRINGEWELL_OK, "every value is read");
+        sum += at.tag + at.key_size + held(&value);
+        offset = at.next;
+    }
 }
 
 static uint64_t passed(fringewell_verdict verdict)
@@ -115,29 +115,11 @@ static uint64_t check_strict(const struct row *row)
     return passed(fringewell_check_strict(document, row->length));
 }
 
-// what a value found holds, of the types that the rows look up
-static uint64_t held_framed(const fringewell_found *found)
-{
-    int32_t narrow;
-    uint64_t wide;
-    switch (found->tag) {
-    case FRINGEWELL_TAG_STRING:
-        return found->size - 5;
-    case FRINGEWELL_TAG_INT32:
-        memcpy(&narrow, document + found->offset, sizeof narrow);
-        return (uint64_t)narrow;
-    default:
-        need(found->size == sizeof wide, "a number of eight bytes is found");
-        memcpy(&wide, document + found->offset, sizeof wide);
-        return wide;
-    }
-}
-
 static uint64_t lookup(const struct row *row)
 {
-    fringewell_found found = fringewell_lookup(document, row->length, row->key, row->key_size);
+    fringewell_value found = fringewell_lookup(document, row->length, row->key, row->key_size);
     need(found.number == FRINGEWELL_OK, "the key is found");
-    return found.tag + held_framed(&found);
+    return found.tag + held(&found);
 }
 
 // ---- writing
@@ -151,83 +133,83 @@ static void add(struct row *row, struct piece piece)
 // the pieces of a document and of those inside it, made before any turn, so that a turn only writes
 static void collect(struct row *row, const uint8_t *bytes, size_t length)
 {
-    fringewell_stepped step = fringewell_step(bytes, length, 4, false);
-    for (; !step.ended; step = fringewell_step(bytes, length, step.next, false)) {
-        fringewell_value value = value_of(bytes, length, &step);
-        need(value.number == FRINGEWELL_OK, "every value is read");
+    fringewell_element at = fringewell_next(bytes, length, FRINGEWELL_START, false);
+    for (; !at.ended; at = fringewell_next(bytes, length, at.next, at.ended)) {
+        const fringewell_value *value = &at.value;
+        need(value->number == FRINGEWELL_OK, "every value is read");
         add(row, (struct piece){
-                     .tag = value.tag,
-                     .bits = value.bits,
-                     .key = bytes + step.key_offset,
-                     .key_size = step.key_size,
-                     .part = bytes + value.offset,
-                     .size = value.size,
-                     .part2 = bytes + value.offset2,
-                     .size2 = value.size2,
+                     .tag = value->tag,
+                     .bits = value->bits,
+                     .key = bytes + at.key_offset,
+                     .key_size = at.key_size,
+                     .part = bytes + value->offset,
+                     .size = value->size,
+                     .part2 = bytes + value->offset2,
+                     .size2 = value->size2,
                  });
-        if (value.tag == FRINGEWELL_TAG_DOCUMENT || value.tag == FRINGEWELL_TAG_ARRAY)
-            collect(row, bytes + value.offset, value.size);
+        if (value->tag == FRINGEWELL_TAG_DOCUMENT || value->tag == FRINGEWELL_TAG_ARRAY)
+            collect(row, bytes + value->offset, value->size);
     }
-    need(step.number == FRINGEWELL_OK, "every step is answered");
+    need(at.value.number == FRINGEWELL_OK, "every step is answered");
     add(row, (struct piece){.tag = CLOSING});
 }
 
-#define LENT writer, out, ROOM, piece->key, piece->key_size
+#define LENT state, out, ROOM, piece->key, piece->key_size
 
-static fringewell_written append_number(fringewell_writer *writer, const struct piece *piece)
+static fringewell_written append_number(fringewell_state *state, const struct piece *piece)
 {
     switch (piece->tag) {
     case FRINGEWELL_TAG_DOUBLE:
-        return fringewell_append_double(LENT, piece->bits);
+        return fringewell_state_append_double(LENT, piece->bits);
     case FRINGEWELL_TAG_BOOL:
-        return fringewell_append_bool(LENT, piece->bits);
+        return fringewell_state_append_bool(LENT, piece->bits);
     case FRINGEWELL_TAG_INT32:
-        return fringewell_append_int32(LENT, (int32_t)piece->bits);
+        return fringewell_state_append_int32(LENT, (int32_t)piece->bits);
     case FRINGEWELL_TAG_INT64:
-        return fringewell_append_int64(LENT, (int64_t)piece->bits);
+        return fringewell_state_append_int64(LENT, (int64_t)piece->bits);
     case FRINGEWELL_TAG_DATETIME:
-        return fringewell_append_datetime(LENT, (int64_t)piece->bits);
+        return fringewell_state_append_datetime(LENT, (int64_t)piece->bits);
     case FRINGEWELL_TAG_TIMESTAMP:
-        return fringewell_append_timestamp(LENT, (uint32_t)piece->bits, (uint32_t)(piece->bits >> 32));
+        return fringewell_state_append_timestamp(LENT, (uint32_t)piece->bits, (uint32_t)(piece->bits >> 32));
     default:
         need(piece->tag == FRINGEWELL_TAG_NULL, "the value is of a type that the rows write");
-        return fringewell_append_null(LENT);
+        return fringewell_state_append_null(LENT);
     }
 }
 
 // appends a value, of a document or an array only its opening; or closes the innermost
-static fringewell_written append(fringewell_writer *writer, const struct piece *piece)
+static fringewell_written append(fringewell_state *state, const struct piece *piece)
 {
     switch (piece->tag) {
     case CLOSING:
-        return fringewell_writer_close(writer, out, ROOM);
+        return fringewell_state_close(state, out, ROOM);
     case FRINGEWELL_TAG_DOCUMENT:
-        return fringewell_writer_open_document(LENT);
+        return fringewell_state_open_document(LENT);
     case FRINGEWELL_TAG_ARRAY:
-        return fringewell_writer_open_array(LENT);
+        return fringewell_state_open_array(LENT);
     case FRINGEWELL_TAG_STRING:
-        return fringewell_append_string(LENT, piece->part, piece->size);
+        return fringewell_state_append_string(LENT, piece->part, piece->size);
     case FRINGEWELL_TAG_SYMBOL:
-        return fringewell_append_symbol(LENT, piece->part, piece->size);
+        return fringewell_state_append_symbol(LENT, piece->part, piece->size);
     case FRINGEWELL_TAG_BINARY:
-        return fringewell_append_binary(LENT, (uint8_t)piece->bits, piece->part, piece->size);
+        return fringewell_state_append_binary(LENT, (uint8_t)piece->bits, piece->part, piece->size);
     case FRINGEWELL_TAG_REGEX:
-        return fringewell_append_regex(LENT, piece->part, piece->size, piece->part2, piece->size2);
+        return fringewell_state_append_regex(LENT, piece->part, piece->size, piece->part2, piece->size2);
     case FRINGEWELL_TAG_OBJECT_ID:
-        return fringewell_append_object_id(LENT, piece->part);
+        return fringewell_state_append_object_id(LENT, piece->part);
     case FRINGEWELL_TAG_DECIMAL128:
-        return fringewell_append_decimal128(LENT, piece->part);
+        return fringewell_state_append_decimal128(LENT, piece->part);
     default:
-        return append_number(writer, piece);
+        return append_number(state, piece);
     }
 }
 
 static uint64_t build(const struct row *row)
 {
-    _Alignas(64) fringewell_writer writer = fringewell_writer_new(); // for which memset, wherever the stack begins, does the same
-    fringewell_written did = fringewell_writer_open(&writer, out, ROOM);
+    _Alignas(64) fringewell_state state = fringewell_state_new(); // for which memset, wherever the stack begins, does the same
+    fringewell_written did = fringewell_state_open(&state, out, ROOM);
     for (size_t i = 0; did.number == FRINGEWELL_OK && i < row->count; i++)
-        did = append(&writer, &row->pieces[i]);
+        did = append(&state, &row->pieces[i]);
     need(did.number == FRINGEWELL_OK, "every piece is written");
     return did.used;
 }

@@ -123,8 +123,10 @@ def notes():
     keys = sum(1 for _ in rules.elements(beacon()))
     return f"""beacon: samples/beacon.bson, {len(beacon())} bytes, {keys} keys at the top.
 3,000 elements: {len(elements(3000))} bytes of int32, double, string and int64. 200 levels: one document in the other.
-iterate and read: every step and every value of the top; in it and in lookups libbson tests no UTF-8.
-read at each place: the same, but Fringewell reads by fringewell_read, which steps to the element a second time.
+iterate and read: every step and every value of the top, by Fringewell with one call for both, fringewell_next;
+in it and in lookups libbson tests no UTF-8.
+read at each place: the same, but Fringewell steps by fringewell_step, and reads by fringewell_read, which steps
+to the element a second time.
 strict check: only Fringewell asks for the keys of arrays; the others check as in the row before.
 build: without the beacon's code with scope, which the writer does not write. Fringewell tests each key and
 text, and makes the keys of arrays; the Rust tests those that come as bytes, and has none to test where they

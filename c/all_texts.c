@@ -1,6 +1,7 @@
-/* Every text of up to three bytes, and every one of four telling bytes, passes the check exactly where another decoder reads it: one that makes
- * each character's number from its bits, and then asks whether that number is a character's, and not too small for its bytes (RFC 3629, section 3).
- * Those of telling bytes are tried with letters before and behind them too, so that the library goes each of its ways through a text. */
+/* Every text of up to three bytes, and every one of four telling bytes, passes the check exactly where another decoder reads it: one that
+ * makes each character's number from its bits, and then asks whether that number is a character's, and not too small for its bytes (RFC
+ * 3629, section 3). Those of telling bytes are tried with letters before and behind them too, so that the library goes each of its ways
+ * through a text. */
 #include "samples.h"
 #include "test.h"
 
@@ -51,7 +52,7 @@ static void try_text(const uint8_t *text, size_t size) {
     bool alike = verdict.number == (read ? 0 : FRINGEWELL_NOT_UTF8) && verdict.place == (read ? 0 : 4) && verdict.count == read;
     expected++;
     if (!alike && failed++ < 5) {
-        printf("a text of %zu bytes, of which the other decoder says %d: %" PRIu64 " at %" PRIu64 ":", size, read, verdict.number, verdict.place);
+        printf("a text of %zu bytes, of which the other decoder says %d: %" PRIu32 " at %zu:", size, read, verdict.number, verdict.place);
         for (size_t i = 0; i < size; i++) {
             printf(" %02X", text[i]);
         }

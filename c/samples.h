@@ -2,10 +2,8 @@
 #ifndef SAMPLES_H
 #define SAMPLES_H
 
-#include <stdint.h>
-#include <stddef.h>
+#include <fringewell.h>
 #include <stdio.h>
-#include <string.h>
 
 /* One element of each of the twenty-one types, keys a to u. In front of each line: the offset of its tag. */
 static const uint8_t every_type[221] = {
@@ -34,6 +32,31 @@ static const uint8_t every_type[221] = {
     /* 220 */ 0,
 };
 
+/* What each of them is: tag, place, framed bytes; then the number and the parts. Its key is one letter, behind the tag. */
+static const fringewell_value every_value[21] = {
+    {0, FRINGEWELL_TAG_DOUBLE, 4, 7, 8, 0xC004000000000000, 0, 0, 0, 0},
+    {0, FRINGEWELL_TAG_STRING, 15, 18, 8, 0, 22, 3, 0, 0}, /* without its length and zero */
+    {0, FRINGEWELL_TAG_DOCUMENT, 26, 29, 8, 0, 29, 8, 0, 0},
+    {0, FRINGEWELL_TAG_ARRAY, 37, 40, 12, 0, 40, 12, 0, 0},
+    {0, FRINGEWELL_TAG_BINARY, 52, 55, 7, 0x80, 60, 2, 0, 0}, /* behind length and subtype */
+    {0, FRINGEWELL_TAG_UNDEFINED, 62, 65, 0, 0, 0, 0, 0, 0},
+    {0, FRINGEWELL_TAG_OBJECT_ID, 65, 68, 12, 0, 68, 12, 0, 0},
+    {0, FRINGEWELL_TAG_BOOL, 80, 83, 1, 1, 0, 0, 0, 0},
+    {0, FRINGEWELL_TAG_DATETIME, 84, 87, 8, (uint64_t)-1000, 0, 0, 0, 0},
+    {0, FRINGEWELL_TAG_NULL, 95, 98, 0, 0, 0, 0, 0, 0},
+    {0, FRINGEWELL_TAG_REGEX, 98, 101, 5, 0, 101, 2, 104, 1}, /* without their zeros */
+    {0, FRINGEWELL_TAG_DBPOINTER, 106, 109, 19, 0, 113, 2, 116, 12},
+    {0, FRINGEWELL_TAG_CODE, 128, 131, 6, 0, 135, 1, 0, 0},
+    {0, FRINGEWELL_TAG_SYMBOL, 137, 140, 5, 0, 144, 0, 0, 0},
+    {0, FRINGEWELL_TAG_CODE_WITH_SCOPE, 145, 148, 18, 0, 156, 1, 158, 8}, /* the code behind both lengths */
+    {0, FRINGEWELL_TAG_INT32, 166, 169, 4, (uint64_t)-7, 0, 0, 0, 0},
+    {0, FRINGEWELL_TAG_TIMESTAMP, 173, 176, 8, 0xFEDCBA9801020304, 0, 0, 0, 0},
+    {0, FRINGEWELL_TAG_INT64, 184, 187, 8, 0x8000000000000000, 0, 0, 0, 0},
+    {0, FRINGEWELL_TAG_DECIMAL128, 195, 198, 16, 0, 198, 16, 0, 0},
+    {0, FRINGEWELL_TAG_MIN_KEY, 214, 217, 0, 0, 0, 0, 0, 0},
+    {0, FRINGEWELL_TAG_MAX_KEY, 217, 220, 0, 0, 0, 0, 0, 0},
+};
+
 /* P12 of RULES.md: key a twice, first false, then true. */
 static const uint8_t p12[13] = {13, 0, 0, 0, 0x08, 'a', 0, 0, 0x08, 'a', 0, 1, 0};
 
@@ -51,6 +74,20 @@ static inline size_t put(uint8_t *out, size_t at, const uint8_t *bytes, size_t s
         out[at + i] = bytes[i];
     }
     return at + size;
+}
+
+/* A file of samples/, if it has at most so many bytes. Returns its length, or 0. */
+static inline size_t load(const char *name, uint8_t *out, size_t size) {
+    char path[64];
+    snprintf(path, sizeof path, "../samples/%s.bson", name);
+    FILE *file = fopen(path, "rb");
+    if (file == NULL) {
+        return 0;
+    }
+    size_t length = fread(out, 1, size, file);
+    bool whole = fgetc(file) == EOF && ferror(file) == 0;
+    fclose(file);
+    return whole ? length : 0;
 }
 
 /* A document in a document, and so on: `levels` of them inside the top, and in the innermost `body`. `front` stands between the length of

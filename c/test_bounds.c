@@ -1,8 +1,8 @@
 /* No byte outside a lent slice is touched: each slice ends where a page ends behind which there is none, and damaged documents point past
  * their end in every way that one byte can. A step outside would stop the program. */
 #define _DEFAULT_SOURCE
+#include "agree.h"
 #include "samples.h"
-#include "test.h"
 #include <sys/mman.h>
 #include <unistd.h>
 
@@ -17,12 +17,6 @@ static uint8_t *page_end(void) {
 
 static uint8_t *document_end, *out_end, *key_end;
 
-/* What a step gave, read by its numbers, is what is read at its place. */
-static bool read_once(const uint8_t *document, size_t length, fringewell_stepped at, fringewell_value there) {
-    fringewell_value value = fringewell_value_of(document, length, at.place, at.tag, at.offset, at.size);
-    return at.ended == 1 || memcmp(&value, &there, sizeof value) == 0;
-}
-
 static const size_t limits[] = {0, 1, 2, SIZE_MAX};
 enum { LIMITS = sizeof limits / sizeof *limits };
 
@@ -31,7 +25,7 @@ static bool checked_under(const uint8_t *document, size_t length, fringewell_ver
     bool good = true, no_zero = plain.number == FRINGEWELL_NO_ZERO;
     for (int i = 0; i < LIMITS; i++) {
         fringewell_verdict verdict = fringewell_check_under(document, length, limits[i]);
-        bool same = !no_zero && memcmp(&verdict, &plain, sizeof plain) == 0;
+        bool same = !no_zero && same_verdict(verdict, plain);
         good = good && (same || (verdict.number == FRINGEWELL_TOO_LONG && (no_zero || limits[i] < length)));
         fringewell_check_strict_under(document, length, limits[i]);
         fringewell_lookup_under(document, length, key_end - 1, 1, limits[i]);
@@ -44,21 +38,28 @@ static bool checked_under(const uint8_t *document, size_t length, fringewell_ver
  * 6 to 10, a text that it met may be longer. */
 static bool stepped_under(const uint8_t *document, size_t length, size_t place, size_t limit, fringewell_stepped at,
                           fringewell_value there) {
-    const fringewell_stepped no_step = {.number = FRINGEWELL_TOO_LONG, .place = place, .ended = 1, .next = place};
+    const fringewell_stepped no_step = {.number = FRINGEWELL_TOO_LONG, .place = place, .ended = true, .next = place};
     const fringewell_value no_value = {.number = FRINGEWELL_TOO_LONG, .place = place};
     bool longer = at.number == FRINGEWELL_NO_ZERO || at.key_size > limit ||
                   (at.tag == FRINGEWELL_TAG_REGEX && (there.size > limit || there.size2 > limit));
     bool perhaps = at.number >= FRINGEWELL_NOT_UTF8 && limit < length;
     fringewell_stepped stepped = fringewell_step_under(document, length, place, false, limit);
     fringewell_value value = fringewell_read_under(document, length, place, limit);
+    bool agrees = agree(fringewell_next_under(document, length, place, false, limit), stepped, value);
     if (longer || (perhaps && stepped.number == FRINGEWELL_TOO_LONG)) {
-        return memcmp(&stepped, &no_step, sizeof stepped) == 0 && memcmp(&value, &no_value, sizeof value) == 0;
+        return agrees && same_stepped(stepped, no_step) && same_value(value, no_value);
     }
-    return memcmp(&stepped, &at, sizeof stepped) == 0 && memcmp(&value, &there, sizeof value) == 0;
+    return agrees && same_stepped(stepped, at) && same_value(value, there);
 }
 
-/* Every call that reads, at every place: the parts that are given lie in the document; and joining with the empty document, which refuses
- * as the check does and else gives it back. */
+/* The parts that are given lie in the document. */
+static bool inside(size_t length, fringewell_stepped stepped, fringewell_value value) {
+    return stepped.key_offset + stepped.key_size <= length && stepped.framed_offset + stepped.framed_size <= length &&
+           value.framed_offset + value.framed_size <= length && value.offset + value.size <= length &&
+           value.offset2 + value.size2 <= length;
+}
+
+/* Every call that reads, at every place; and joining with the empty document, which refuses as the check does and else gives it back. */
 static bool answers(const uint8_t *document, size_t length) {
     static const uint8_t empty[5] = {5, 0, 0, 0, 0};
     fringewell_verdict verdict = fringewell_check(document, length);
@@ -71,8 +72,7 @@ static bool answers(const uint8_t *document, size_t length) {
     for (size_t place = 0; place <= length; place++) {
         fringewell_stepped stepped = fringewell_step(document, length, place, false);
         fringewell_value value = fringewell_read(document, length, place);
-        good = good && stepped.offset + stepped.size <= length && stepped.key_offset + stepped.key_size <= length &&
-               value.offset + value.size <= length && value.offset2 + value.size2 <= length && read_once(document, length, stepped, value);
+        good = good && inside(length, stepped, value) && agree(fringewell_next(document, length, place, false), stepped, value);
         for (int i = 0; i < LIMITS; i++) {
             good = good && stepped_under(document, length, place, limits[i], stepped, value);
         }
@@ -110,36 +110,17 @@ static void first_bytes(size_t limit, const uint8_t *front, size_t front_size) {
     refused_under(document, length, limit, FRINGEWELL_TOO_LONG);
 }
 
-/* A value that no step gave, of the last bytes: its parts lie in the document, or are empty. With one byte more it runs past the end. */
-static bool own(uint8_t tag, size_t size) {
-    const uint8_t *document = document_end - sizeof every_type;
-    size_t offset = sizeof every_type - size;
-    fringewell_value value = fringewell_value_of(document, sizeof every_type, 4, tag, offset, size);
-    return (value.size == 0 || value.offset + value.size <= sizeof every_type) &&
-           (value.size2 == 0 || value.offset2 + value.size2 <= sizeof every_type) &&
-           fringewell_value_of(document, sizeof every_type, 4, tag, offset, size + 1).number == FRINGEWELL_PAST_THE_SLICE;
-}
-
-static void owns(uint8_t tag) {
-    bool good = true;
-    memcpy(document_end - sizeof every_type, every_type, sizeof every_type);
-    for (size_t size = 0; size <= sizeof every_type; size++) {
-        good = good && own(tag, size);
-    }
-    EXPECT(good);
-}
-
 /* A writer whose buffer, key and text end at such pages, in every room up to what its document needs. */
 static void write_in(size_t room) {
     uint8_t *out = out_end - room;
-    fringewell_writer writer = fringewell_writer_new();
-    fringewell_writer_open(&writer, out, room);
-    fringewell_writer_open_array(&writer, out, room, key_end - 1, 1);
-    fringewell_append_string(&writer, out, room, key_end - 1, 1, key_end - 1, 1);
-    fringewell_append_object_id(&writer, out, room, NOTHING, key_end - 12);
-    fringewell_append_decimal128(&writer, out, room, NOTHING, key_end - 16);
-    fringewell_writer_close(&writer, out, room);
-    fringewell_written closed = fringewell_writer_close(&writer, out, room);
+    fringewell_state state = fringewell_state_new();
+    fringewell_state_open(&state, out, room);
+    fringewell_state_open_array(&state, out, room, key_end - 1, 1);
+    fringewell_state_append_string(&state, out, room, key_end - 1, 1, key_end - 1, 1);
+    fringewell_state_append_object_id(&state, out, room, NOTHING, key_end - 12);
+    fringewell_state_append_decimal128(&state, out, room, NOTHING, key_end - 16);
+    fringewell_state_close(&state, out, room);
+    fringewell_written closed = fringewell_state_close(&state, out, room);
     EXPECT_EQUAL(closed.number, room < 13 ? FRINGEWELL_OUT_OF_TURN : FRINGEWELL_OK); /* 4 + 3 + 4, and two zeros, for top and array */
     EXPECT(closed.number != 0 || fringewell_check_strict(out, closed.used).number == 0);
 }
@@ -158,9 +139,6 @@ int main(void) {
     for (size_t length = 0; length <= sizeof every_type; length++) {
         cut(length);
         write_in(length);
-    }
-    for (unsigned tag = 0; tag <= UINT8_MAX; tag++) {
-        owns((uint8_t)tag);
     }
     for (size_t limit = 0; limit < 64; limit++) {
         first_bytes(limit, BYTES(0x0A));       /* the key */

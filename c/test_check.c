@@ -157,11 +157,11 @@ static void anew(void) {
 }
 
 /* An array with one element, whose tag is at 10, by the plain check and by the strict one. */
-static void one_element(const uint8_t *element, size_t size, uint64_t plain, uint64_t strict) {
+static void one_element(const uint8_t *element, size_t size, uint32_t plainly, uint32_t strictly) {
     uint8_t out[32];
     size_t length = nest(out, 1, BYTES(0x04, 0), element, size);
-    EXPECT_VERDICT(fringewell_check(out, length), plain, 10, 0);
-    EXPECT_VERDICT(fringewell_check_strict(out, length), strict, 10, 0);
+    EXPECT_VERDICT(fringewell_check(out, length), plainly, 10, 0);
+    EXPECT_VERDICT(fringewell_check_strict(out, length), strictly, 10, 0);
 }
 
 /* Under the key 1, which is another than 0: the step is refused before the key is asked for, the reading behind it. */

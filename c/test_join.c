@@ -8,27 +8,19 @@ static uint8_t out[SIZE];
 static const uint8_t empty[5] = {5, 0, 0, 0, 0};
 static const uint8_t number[12] = {12, 0, 0, 0, 0x10, 'n', 0, 5, 0, 0, 0, 0};
 
-#define EXPECT_JOINED(call, bytes)                              \
-    do {                                                        \
-        memset(out, GUARD, SIZE);                               \
-        fringewell_joined joined = (call);                      \
-        EXPECT_EQUAL(joined.number, 0);                         \
-        EXPECT_EQUAL(joined.place, 0);                          \
-        EXPECT_EQUAL(joined.which, 0);                          \
-        EXPECT_EQUAL(joined.length, sizeof(bytes));             \
-        EXPECT(memcmp(out, (bytes), sizeof(bytes)) == 0);       \
+#define EXPECT_BODIES(call, bytes)                                  \
+    do {                                                            \
+        memset(out, GUARD, SIZE);                                   \
+        EXPECT_JOINED(call, JOINED(.length = sizeof(bytes)));       \
+        EXPECT(memcmp(out, (bytes), sizeof(bytes)) == 0);           \
         EXPECT(guarded(out + sizeof(bytes), SIZE - sizeof(bytes))); \
     } while (0)
 
-#define EXPECT_UNJOINED(call, number_, place_, which_)          \
-    do {                                                        \
-        memset(out, GUARD, SIZE);                               \
-        fringewell_joined joined = (call);                      \
-        EXPECT_EQUAL(joined.number, (number_));                 \
-        EXPECT_EQUAL(joined.place, (place_));                   \
-        EXPECT_EQUAL(joined.which, (which_));                   \
-        EXPECT_EQUAL(joined.length, 0);                         \
-        EXPECT(guarded(out, SIZE));                             \
+#define EXPECT_UNJOINED(call, number_, place_, which_)                                               \
+    do {                                                                                             \
+        memset(out, GUARD, SIZE);                                                                    \
+        EXPECT_JOINED(call, JOINED(.number = (number_), .which = (which_), .place = (place_)));      \
+        EXPECT(guarded(out, SIZE));                                                                  \
     } while (0)
 
 /* 13 + 12 - 5 = 20 bytes: both bodies between one length and one zero. */
@@ -36,14 +28,14 @@ static void bodies(void) {
     static const uint8_t both[20] = {20, 0, 0, 0, 0x08, 'a', 0, 0, 0x08, 'a', 0, 1, 0x10, 'n', 0, 5, 0, 0, 0, 0};
     static const uint8_t turned[20] = {20, 0, 0, 0, 0x10, 'n', 0, 5, 0, 0, 0, 0x08, 'a', 0, 0, 0x08, 'a', 0, 1, 0};
     static const uint8_t twice[19] = {19, 0, 0, 0, 0x10, 'n', 0, 5, 0, 0, 0, 0x10, 'n', 0, 5, 0, 0, 0, 0};
-    EXPECT_JOINED(fringewell_join(p12, sizeof p12, number, sizeof number, out, sizeof out), both);
+    EXPECT_BODIES(fringewell_join(p12, sizeof p12, number, sizeof number, out, sizeof out), both);
     EXPECT_VERDICT(fringewell_check(out, 20), 0, 0, 2 + 1);
-    EXPECT_JOINED(fringewell_join(number, sizeof number, p12, sizeof p12, out, sizeof out), turned);
-    EXPECT_JOINED(fringewell_join(number, sizeof number, number, sizeof number, out, sizeof out), twice); /* one slice lent twice */
-    EXPECT_JOINED(fringewell_join(p12, sizeof p12, number, sizeof number, out, 20), both); /* just room */
-    EXPECT_JOINED(fringewell_join(empty, sizeof empty, empty, sizeof empty, out, 5), empty);
-    EXPECT_JOINED(fringewell_join(empty, sizeof empty, number, sizeof number, out, 12), number);
-    EXPECT_JOINED(fringewell_join(p12, sizeof p12, empty, sizeof empty, out, 13), p12);
+    EXPECT_BODIES(fringewell_join(number, sizeof number, p12, sizeof p12, out, sizeof out), turned);
+    EXPECT_BODIES(fringewell_join(number, sizeof number, number, sizeof number, out, sizeof out), twice); /* one slice lent twice */
+    EXPECT_BODIES(fringewell_join(p12, sizeof p12, number, sizeof number, out, 20), both); /* just room */
+    EXPECT_BODIES(fringewell_join(empty, sizeof empty, empty, sizeof empty, out, 5), empty);
+    EXPECT_BODIES(fringewell_join(empty, sizeof empty, number, sizeof number, out, 12), number);
+    EXPECT_BODIES(fringewell_join(p12, sizeof p12, empty, sizeof empty, out, 13), p12);
 }
 
 static void no_room(void) {

@@ -4,7 +4,7 @@
 enum { SIZE = 96, STATES = 5000 };
 
 typedef struct {
-    fringewell_writer writer;
+    fringewell_state state;
     uint8_t out[SIZE];
 } desk;
 
@@ -18,35 +18,35 @@ static uint32_t below(uint32_t bound) { /* xorshift */
 }
 
 /* Words of every size, few of which are possible. */
-static void wild(fringewell_writer *writer) {
+static void wild(fringewell_state *state) {
     for (int i = 0; i < 406; i++) {
-        writer->words[i] = below(UINT32_MAX) >> below(32);
+        state->words[i] = below(UINT32_MAX) >> below(32);
     }
 }
 
 /* A few open documents and arrays as calls would leave them, and then, of every second state, one word made another. */
-static void near(fringewell_writer *writer) {
+static void near(fringewell_state *state) {
     uint32_t open = 1 + below(4), start = 0;
     for (uint32_t i = 0; i < open; i++) {
-        writer->words[2 + 2 * i] = start;
-        writer->words[3 + 2 * i] = below(2) ? UINT32_MAX : below(4);
+        state->words[2 + 2 * i] = start;
+        state->words[3 + 2 * i] = below(2) ? UINT32_MAX : below(4);
         start += 4 + below(8);
     }
-    writer->words[0] = start + below(4);
-    writer->words[1] = open;
+    state->words[0] = start + below(4);
+    state->words[1] = open;
     if (below(2)) {
-        writer->words[below(2 + 2 * open)] = below(UINT32_MAX) >> below(32);
+        state->words[below(2 + 2 * open)] = below(UINT32_MAX) >> below(32);
     }
 }
 
 static fringewell_written any_call(desk *d, size_t size, int row) {
     if (row == CALLS) {
-        return fringewell_writer_close(&d->writer, d->out, size);
+        return fringewell_state_close(&d->state, d->out, size);
     }
     if (row == CALLS + 1) {
-        return fringewell_writer_open(&d->writer, d->out, size);
+        return fringewell_state_open(&d->state, d->out, size);
     }
-    return call_row(row, (lent){&d->writer, d->out, size, TEXT("key")});
+    return call_row(row, (lent){&d->state, d->out, size, TEXT("key")});
 }
 
 /* Refused: by a number that this call has, and nothing changed. */
@@ -58,7 +58,7 @@ static bool refused_well(fringewell_written written, const desk *before, const d
 
 /* Accepted: what lies behind the bytes used stays, and so does, unless a length is closed, what lay before them. */
 static bool accepted_well(fringewell_written written, const desk *before, const desk *after, size_t size, int row) {
-    size_t old = row < CALLS ? before->writer.words[0] : 0;
+    size_t old = row < CALLS ? before->state.words[0] : 0;
     return written.used <= size && memcmp(before->out + written.used, after->out + written.used, SIZE - written.used) == 0 &&
            memcmp(before->out, after->out, old) == 0;
 }
@@ -67,9 +67,9 @@ int main(void) {
     static desk d, before;
     unsigned accepted = 0;
     for (int i = 0; i < STATES; i++) {
-        wild(&d.writer);
+        wild(&d.state);
         if (i % 4 != 0) {
-            near(&d.writer);
+            near(&d.state);
         }
         memset(d.out, GUARD, SIZE);
         size_t size = below(SIZE);

@@ -38,52 +38,52 @@ static void one_binary(uint8_t *slice, size_t size) {
 static void joining(uint8_t *slice, uint8_t *out) {
     one_binary(slice, ROOM);
     EXPECT_VERDICT(fringewell_check(slice, ROOM), 0, 0, 1);
-    fringewell_found found = fringewell_lookup(slice, ROOM, NOTHING);
-    EXPECT_EQUAL(found.size, ROOM - 7);
+    const fringewell_value binary = VALUE(.tag = FRINGEWELL_TAG_BINARY, .place = 4, .framed_offset = 6, .framed_size = ROOM - 7,
+                                          .offset = 11, .size = ROOM - 12);
+    EXPECT_VALUE(fringewell_lookup(slice, ROOM, NOTHING), binary);
     EXPECT_EQUAL(fringewell_step(slice, ROOM, 4, false).next, ROOM - 1);
+    EXPECT_ELEMENT(fringewell_next(slice, ROOM, 4, false), ELEMENT(.value = binary, .key_offset = 5, .next = ROOM - 1));
     one_binary(slice, 1073741827);
-    fringewell_joined joined = fringewell_join(slice, 1073741827, slice, 1073741827, out, SPAN);
-    EXPECT_EQUAL(joined.number, FRINGEWELL_NO_ROOM);
-    EXPECT_EQUAL(joined.which, 0);
+    EXPECT_JOINED(fringewell_join(slice, 1073741827, slice, 1073741827, out, SPAN), JOINED(.number = FRINGEWELL_NO_ROOM));
     EXPECT_EQUAL(out[0], 0);
 }
 
 /* A top of almost all the room: 2 bytes of a null and the zero fit behind 2,147,483,644, and not behind one more. */
 static void writing(uint8_t *out) {
-    fringewell_writer writer = fringewell_writer_new();
-    EXPECT_WRITTEN(fringewell_writer_open(&writer, out, SPAN), 0, 4);
-    writer.words[0] = 2147483645;
-    EXPECT_WRITTEN(fringewell_append_null(&writer, out, SPAN, NOTHING), FRINGEWELL_NO_ROOM, 0);
-    writer.words[0] = 2147483644;
-    EXPECT_WRITTEN(fringewell_append_null(&writer, out, SPAN, NOTHING), 0, 2147483646);
+    fringewell_state state = fringewell_state_new();
+    EXPECT_WRITTEN(fringewell_state_open(&state, out, SPAN), 0, 4);
+    state.words[0] = 2147483645;
+    EXPECT_WRITTEN(fringewell_state_append_null(&state, out, SPAN, NOTHING), FRINGEWELL_NO_ROOM, 0);
+    state.words[0] = 2147483644;
+    EXPECT_WRITTEN(fringewell_state_append_null(&state, out, SPAN, NOTHING), 0, 2147483646);
     EXPECT_EQUAL(out[2147483644], FRINGEWELL_TAG_NULL);
-    EXPECT_WRITTEN(fringewell_writer_close(&writer, out, SPAN), 0, ROOM);
+    EXPECT_WRITTEN(fringewell_state_close(&state, out, SPAN), 0, ROOM);
     EXPECT(memcmp(out, (uint8_t[]){0xFF, 0xFF, 0xFF, 0x7F}, 4) == 0);
 }
 
 /* Data as long as 2^32 and more bytes are past the room, whatever their length is in 32 bits. */
 static void long_data(uint8_t *out, const uint8_t *data) {
-    fringewell_writer writer = fringewell_writer_new();
-    EXPECT_WRITTEN(fringewell_writer_open(&writer, out, SPAN), 0, 4);
-    EXPECT_WRITTEN(fringewell_append_binary(&writer, out, SPAN, NOTHING, 0, data, 4294967296), FRINGEWELL_NO_ROOM, 0);
-    EXPECT_WRITTEN(fringewell_append_binary(&writer, out, SPAN, NOTHING, 2, data, SPAN), FRINGEWELL_NO_ROOM, 0);
-    EXPECT_WRITTEN(fringewell_append_binary(&writer, out, SPAN, NOTHING, 0, data, ROOM), FRINGEWELL_NO_ROOM, 0);
+    fringewell_state state = fringewell_state_new();
+    EXPECT_WRITTEN(fringewell_state_open(&state, out, SPAN), 0, 4);
+    EXPECT_WRITTEN(fringewell_state_append_binary(&state, out, SPAN, NOTHING, 0, data, 4294967296), FRINGEWELL_NO_ROOM, 0);
+    EXPECT_WRITTEN(fringewell_state_append_binary(&state, out, SPAN, NOTHING, 2, data, SPAN), FRINGEWELL_NO_ROOM, 0);
+    EXPECT_WRITTEN(fringewell_state_append_binary(&state, out, SPAN, NOTHING, 0, data, ROOM), FRINGEWELL_NO_ROOM, 0);
 }
 
 /* The key that the writer makes for an element with so many before it in its array. */
 static void key_of(uint8_t *out, uint32_t count) {
     char element[16] = {FRINGEWELL_TAG_NULL};
     size_t size = 2 + (size_t)snprintf(element + 1, sizeof element - 1, "%" PRIu32, count);
-    fringewell_writer writer = fringewell_writer_new();
-    EXPECT_WRITTEN(fringewell_writer_open(&writer, out, SPAN), 0, 4);
-    EXPECT_WRITTEN(fringewell_writer_open_array(&writer, out, SPAN, NOTHING), 0, 10);
-    writer.words[0] = USED;
-    writer.words[5] = count;
+    fringewell_state state = fringewell_state_new();
+    EXPECT_WRITTEN(fringewell_state_open(&state, out, SPAN), 0, 4);
+    EXPECT_WRITTEN(fringewell_state_open_array(&state, out, SPAN, NOTHING), 0, 10);
+    state.words[0] = USED;
+    state.words[5] = count;
     out[USED + size] = 0xEE;
-    EXPECT_WRITTEN(fringewell_append_null(&writer, out, SPAN, NOTHING), 0, USED + size);
+    EXPECT_WRITTEN(fringewell_state_append_null(&state, out, SPAN, NOTHING), 0, USED + size);
     EXPECT(memcmp(out + USED, element, size) == 0);
     EXPECT_EQUAL(out[USED + size], 0xEE);
-    EXPECT_EQUAL(writer.words[5], count + 1);
+    EXPECT_EQUAL(state.words[5], count + 1);
 }
 
 /* Keys around each multiple of each power of ten: as long as the number is, and each digit in its place. */

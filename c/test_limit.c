@@ -1,27 +1,29 @@
 /* Limits: the calls under a limit, where a key, a pattern or options may have at most so many bytes. */
+#include "agree.h"
 #include "samples.h"
-#include "test.h"
 
-/* Every call, of a document with one element: tag, key and zero lie in front of its value, the terminator behind it. */
+/* Every call, of a document with one element: tag, key and zero lie in front of its value, the terminator behind it. The value is a null,
+ * or a regex: pattern, zero, options, zero. */
 static void passes(const uint8_t *document, size_t length, size_t key_size, size_t limit) {
     const uint8_t *key = document + 5, tag = document[4];
     size_t offset = 5 + key_size + 1, size = length - 1 - offset;
+    fringewell_value value = VALUE(.tag = tag, .place = 4, .framed_offset = offset, .framed_size = size);
+    if (tag == FRINGEWELL_TAG_REGEX) {
+        value.offset = offset;
+        value.size = strlen((const char *)document + offset);
+        value.offset2 = offset + value.size + 1;
+        value.size2 = size - value.size - 2;
+    }
     EXPECT_VERDICT(fringewell_check_under(document, length, limit), 0, 0, 1);
     EXPECT_VERDICT(fringewell_check_strict_under(document, length, limit), 0, 0, 1);
-    EXPECT_FOUND(fringewell_lookup_under(document, length, key, key_size, limit), 4, tag, offset, size);
-    EXPECT_FOUND(fringewell_lookup_typed_under(document, length, key, key_size, tag, limit), 4, tag, offset, size);
-    fringewell_stepped stepped = fringewell_step_under(document, length, 4, false, limit);
-    EXPECT_EQUAL(stepped.number, 0);
-    EXPECT_EQUAL(stepped.place, 4);
-    EXPECT_EQUAL(stepped.ended, 0);
-    EXPECT_EQUAL(stepped.next, length - 1);
-    EXPECT_EQUAL(stepped.tag, tag);
-    EXPECT_EQUAL(stepped.key_offset, 5);
-    EXPECT_EQUAL(stepped.key_size, key_size);
-    EXPECT_EQUAL(stepped.offset, offset);
-    EXPECT_EQUAL(stepped.size, size);
-    EXPECT_EQUAL(fringewell_read_under(document, length, 4, limit).number, 0);
-    EXPECT_EQUAL(fringewell_read_under(document, length, 4, limit).tag, tag);
+    EXPECT_VALUE(fringewell_lookup_under(document, length, key, key_size, limit), value);
+    EXPECT_VALUE(fringewell_lookup_typed_under(document, length, key, key_size, tag, limit), value);
+    EXPECT_STEPPED(fringewell_step_under(document, length, 4, false, limit),
+                   STEPPED(.tag = tag, .place = 4, .next = length - 1, .key_offset = 5, .key_size = key_size, .framed_offset = offset,
+                           .framed_size = size));
+    EXPECT_ELEMENT(fringewell_next_under(document, length, 4, false, limit),
+                   ELEMENT(.value = value, .key_offset = 5, .key_size = key_size, .next = length - 1));
+    EXPECT_VALUE(fringewell_read_under(document, length, 4, limit), value);
 }
 
 /* Limits that no text here exceeds: among them more than the slice has, and some that would be none or little in fewer bits. */
@@ -96,36 +98,39 @@ static void lookups(void) {
     EXPECT_VERDICT(fringewell_check_under(EVERY, 2), 0, 0, 24);
     EXPECT_VERDICT(fringewell_check_strict_under(EVERY, 2), 0, 0, 24);
     EXPECT_VERDICT(fringewell_check_under(EVERY, 1), FRINGEWELL_TOO_LONG, 98, 0);
-    EXPECT_FOUND(fringewell_lookup_under(EVERY, TEXT("k"), 2), 98, FRINGEWELL_TAG_REGEX, 101, 5);
-    EXPECT_UNFOUND(fringewell_lookup_under(EVERY, TEXT("k"), 1), FRINGEWELL_TOO_LONG, 98);
-    EXPECT_UNFOUND(fringewell_lookup_under(EVERY, TEXT("u"), 1), FRINGEWELL_TOO_LONG, 98); /* before the match */
-    EXPECT_FOUND(fringewell_lookup_under(EVERY, TEXT("j"), 1), 95, FRINGEWELL_TAG_NULL, 98, 0); /* behind it, not seen */
-    EXPECT_UNFOUND(fringewell_lookup_typed_under(EVERY, TEXT("k"), FRINGEWELL_TAG_INT32, 2), FRINGEWELL_OTHER_TYPE, 98);
-    EXPECT_UNFOUND(fringewell_lookup_typed_under(EVERY, TEXT("k"), FRINGEWELL_TAG_INT32, 1), FRINGEWELL_TOO_LONG, 98);
-    EXPECT_UNFOUND(fringewell_lookup_typed_under(EVERY, TEXT("k"), FRINGEWELL_TAG_REGEX, 1), FRINGEWELL_TOO_LONG, 98);
-    EXPECT_UNFOUND(fringewell_lookup_typed_under(p12, sizeof p12, TEXT("a"), FRINGEWELL_TAG_INT32, 1), FRINGEWELL_OTHER_TYPE, 4);
+    EXPECT_VALUE(fringewell_lookup_under(EVERY, TEXT("k"), 2), every_value[10]);
+    EXPECT_NO_VALUE(fringewell_lookup_under(EVERY, TEXT("k"), 1), FRINGEWELL_TOO_LONG, 98);
+    EXPECT_NO_VALUE(fringewell_lookup_under(EVERY, TEXT("u"), 1), FRINGEWELL_TOO_LONG, 98); /* before the match */
+    EXPECT_VALUE(fringewell_lookup_under(EVERY, TEXT("j"), 1), every_value[9]); /* behind it, not seen */
+    EXPECT_VALUE(fringewell_lookup_under(EVERY, TEXT("o"), 2), every_value[14]);
+    EXPECT_VALUE(fringewell_lookup_typed_under(EVERY, TEXT("p"), FRINGEWELL_TAG_INT32, 2), every_value[15]);
+    EXPECT_NO_VALUE(fringewell_lookup_typed_under(EVERY, TEXT("k"), FRINGEWELL_TAG_INT32, 2), FRINGEWELL_OTHER_TYPE, 98);
+    EXPECT_NO_VALUE(fringewell_lookup_typed_under(EVERY, TEXT("k"), FRINGEWELL_TAG_INT32, 1), FRINGEWELL_TOO_LONG, 98);
+    EXPECT_NO_VALUE(fringewell_lookup_typed_under(EVERY, TEXT("k"), FRINGEWELL_TAG_REGEX, 1), FRINGEWELL_TOO_LONG, 98);
+    EXPECT_NO_VALUE(fringewell_lookup_typed_under(p12, sizeof p12, TEXT("a"), FRINGEWELL_TAG_INT32, 1), FRINGEWELL_OTHER_TYPE, 4);
     /* the key that is looked up may be longer */
-    EXPECT_UNFOUND(fringewell_lookup_under(p12, sizeof p12, TEXT("battery"), 1), FRINGEWELL_ABSENT, 12);
-    EXPECT_UNFOUND(fringewell_lookup_typed_under(p12, sizeof p12, TEXT("battery"), FRINGEWELL_TAG_BOOL, 1), FRINGEWELL_ABSENT, 12);
-    EXPECT_UNFOUND(fringewell_lookup_under(BYTES(5, 0, 0, 0, 0), TEXT("a"), 0), FRINGEWELL_ABSENT, 4);
-    EXPECT_UNFOUND(fringewell_lookup_under(NOTHING, NOTHING, 0), FRINGEWELL_TOO_SHORT, 0);
+    EXPECT_NO_VALUE(fringewell_lookup_under(p12, sizeof p12, TEXT("battery"), 1), FRINGEWELL_ABSENT, 12);
+    EXPECT_NO_VALUE(fringewell_lookup_typed_under(p12, sizeof p12, TEXT("battery"), FRINGEWELL_TAG_BOOL, 1), FRINGEWELL_ABSENT, 12);
+    EXPECT_NO_VALUE(fringewell_lookup_under(BYTES(5, 0, 0, 0, 0), TEXT("a"), 0), FRINGEWELL_ABSENT, 4);
+    EXPECT_NO_VALUE(fringewell_lookup_under(NOTHING, NOTHING, 0), FRINGEWELL_TOO_SHORT, 0);
 }
 
 /* Admission, the mark, 4 and the terminator come before the key. A refusal sets the mark and keeps the offset. */
 static void cursors(void) {
     fringewell_stepped refusal = fringewell_step_under(EVERY, 98, false, 1);
-    EXPECT_NO_ELEMENT(refusal, FRINGEWELL_TOO_LONG, 98, 98);
-    EXPECT_NO_ELEMENT(fringewell_step_under(EVERY, refusal.next, refusal.ended, 1), 0, 0, 98);
+    EXPECT_NO_ELEMENT_UNDER(EVERY, 98, false, 1, FRINGEWELL_TOO_LONG, 98);
+    EXPECT_NO_ELEMENT_UNDER(EVERY, refusal.next, refusal.ended, 1, 0, 0);
     EXPECT_EQUAL(fringewell_step_under(EVERY, 98, false, 2).next, 106);
-    EXPECT_NO_ELEMENT(fringewell_step_under(EVERY, 220, false, 0), 0, 0, 220);
-    EXPECT_NO_ELEMENT(fringewell_step_under(EVERY, 3, false, 0), FRINGEWELL_STEP_OUTSIDE, 3, 3);
-    EXPECT_NO_ELEMENT(fringewell_step_under(EVERY, SIZE_MAX, false, SIZE_MAX), FRINGEWELL_STEP_OUTSIDE, SIZE_MAX, SIZE_MAX);
-    EXPECT_NO_ELEMENT(fringewell_step_under(NOTHING, 4, false, 0), FRINGEWELL_TOO_SHORT, 0, 4);
-    EXPECT_UNREAD(fringewell_read_under(EVERY, 98, 1), FRINGEWELL_TOO_LONG, 98);
-    EXPECT_UNREAD(fringewell_read_under(EVERY, 220, 0), FRINGEWELL_ABSENT, 220);
-    EXPECT_UNREAD(fringewell_read_under(EVERY, 221, 0), FRINGEWELL_STEP_OUTSIDE, 221);
-    EXPECT_EQUAL(fringewell_read_under(EVERY, 166, 1).bits, (uint64_t)-7); /* behind the pattern */
-    EXPECT_EQUAL(fringewell_read_under(EVERY, 98, 2).offset2, 104);
+    EXPECT_NO_ELEMENT_UNDER(EVERY, 220, false, 0, 0, 0);
+    EXPECT_NO_ELEMENT_UNDER(EVERY, 4, true, 0, 0, 0);
+    EXPECT_NO_ELEMENT_UNDER(EVERY, 3, false, 0, FRINGEWELL_STEP_OUTSIDE, 3);
+    EXPECT_NO_ELEMENT_UNDER(EVERY, SIZE_MAX, false, SIZE_MAX, FRINGEWELL_STEP_OUTSIDE, SIZE_MAX);
+    EXPECT_NO_ELEMENT_UNDER(NOTHING, 4, false, 0, FRINGEWELL_TOO_SHORT, 0);
+    EXPECT_NO_VALUE(fringewell_read_under(EVERY, 98, 1), FRINGEWELL_TOO_LONG, 98);
+    EXPECT_NO_VALUE(fringewell_read_under(EVERY, 220, 0), FRINGEWELL_ABSENT, 220);
+    EXPECT_NO_VALUE(fringewell_read_under(EVERY, 221, 0), FRINGEWELL_STEP_OUTSIDE, 221);
+    EXPECT_VALUE(fringewell_read_under(EVERY, 166, 1), every_value[15]); /* behind the pattern */
+    EXPECT_VALUE(fringewell_read_under(EVERY, 98, 2), every_value[10]);
 }
 
 /* [ab: null] */
@@ -185,20 +190,20 @@ static bool same(const uint8_t *document, size_t length, fringewell_stepped at, 
     const uint8_t *key = document + at.key_offset;
     fringewell_stepped stepped = fringewell_step_under(document, length, at.place, false, limit);
     fringewell_value there = fringewell_read_under(document, length, at.place, limit);
-    fringewell_found found = fringewell_lookup_under(document, length, key, at.key_size, limit);
-    return memcmp(&stepped, &at, sizeof at) == 0 && memcmp(&there, &value, sizeof value) == 0 && found.number == 0 &&
-           found.place == at.place;
+    fringewell_value found = fringewell_lookup_under(document, length, key, at.key_size, limit);
+    return same_stepped(stepped, at) && same_value(there, value) && same_value(found, value) &&
+           next_agrees_under(document, length, at.place, false, limit);
 }
 
 /* The place of the first element, at any level, with a key, pattern or options over the limit, found by the calls that have none; 0 where
  * there is none. Up to it every element is given under the limit too. */
 static size_t first_over(const uint8_t *document, size_t length, size_t limit) {
     fringewell_stepped at = fringewell_step(document, length, 4, false);
-    for (; at.ended == 0; at = fringewell_step(document, length, at.next, false)) {
+    for (; !at.ended; at = fringewell_step(document, length, at.next, false)) {
         fringewell_value value = fringewell_read(document, length, at.place);
         bool regex = at.tag == FRINGEWELL_TAG_REGEX, scope = at.tag == FRINGEWELL_TAG_CODE_WITH_SCOPE;
         if (at.key_size > limit || (regex && (value.size > limit || value.size2 > limit))) {
-            EXPECT_NO_ELEMENT(fringewell_step_under(document, length, at.place, false, limit), FRINGEWELL_TOO_LONG, at.place, at.place);
+            EXPECT_NO_ELEMENT_UNDER(document, length, at.place, false, limit, FRINGEWELL_TOO_LONG, at.place);
             return at.place;
         }
         EXPECT(same(document, length, at, value, limit));
@@ -217,13 +222,13 @@ static size_t first_over(const uint8_t *document, size_t length, size_t limit) {
  * pattern at 995 has 14. */
 static void beacon(void) {
     static uint8_t frame[1255];
-    FILE *file = fopen("../samples/beacon.bson", "rb");
-    EXPECT(file != NULL && fread(frame, 1, sizeof frame, file) == sizeof frame && fclose(file) == 0);
+    EXPECT_EQUAL(load("beacon", WHOLE(frame)), sizeof frame);
     EXPECT_EQUAL(first_over(frame, sizeof frame, 12), 255);
     EXPECT_EQUAL(first_over(frame, sizeof frame, 13), 995);
     EXPECT_EQUAL(first_over(frame, sizeof frame, 14), 0);
     for (size_t limit = 0; limit <= 40; limit++) {
-        size_t over = first_over(frame, sizeof frame, limit), number = over > 0 ? FRINGEWELL_TOO_LONG : FRINGEWELL_OK;
+        size_t over = first_over(frame, sizeof frame, limit);
+        uint32_t number = over > 0 ? FRINGEWELL_TOO_LONG : FRINGEWELL_OK;
         EXPECT_VERDICT(fringewell_check_under(frame, sizeof frame, limit), number, over, over > 0 ? 0 : 80);
         EXPECT_VERDICT(fringewell_check_strict_under(frame, sizeof frame, limit), number, over, over > 0 ? 0 : 80);
     }

@@ -77,12 +77,14 @@ static void joining(const uint8_t *document, size_t length) {
 /* Some of the rest: no call but the check goes down by levels. */
 static void others(const uint8_t *document, size_t length) {
     static uint8_t out[64];
-    static fringewell_writer writer;
-    writer = fringewell_writer_new();
-    fringewell_writer_open(&writer, out, sizeof out);
-    fringewell_append_regex(&writer, out, sizeof out, TEXT("\xC3\xA9"), TEXT("\xC3\xA9"), TEXT("\xC3\xA9"));
+    static fringewell_state state;
+    state = fringewell_state_new();
+    fringewell_state_open(&state, out, sizeof out);
+    fringewell_state_append_regex(&state, out, sizeof out, TEXT("\xC3\xA9"), TEXT("\xC3\xA9"), TEXT("\xC3\xA9"));
     fringewell_lookup_typed(document, length, TEXT("absent"), FRINGEWELL_TAG_INT32);
     fringewell_lookup_typed_under(document, length, TEXT("absent"), FRINGEWELL_TAG_INT32, LIMIT);
+    fringewell_next(document, length, 4, false);
+    fringewell_next_under(document, length, 4, false, LIMIT);
     fringewell_read(document, length, 4);
     fringewell_read_under(document, length, 4, LIMIT);
 }

@@ -178,21 +178,20 @@ EMPTY = {0x0A: "null", 0x06: "undefined", 0xFF: "minkey", 0x7F: "maxkey"}
 
 
 def trimmed(v, base, front):
-    """A part without its first bytes, of which no more are taken than it has."""
-    return base + front, max(len(v) - front, 0)
+    """A part without its first bytes."""
+    return base + front, len(v) - front
 
 
 def text(v, base, back=1):
     """A text within its framed bytes, without the length in front and what lies behind it: its final zero, and a DBPointer's ObjectId."""
-    size = max(len(v) - 4 - back, 0)
+    size = len(v) - 4 - back
     unless(is_utf8(v[4 : 4 + size]), 6)
     return base + 4, size
 
 
 def binary_value(v, base):
-    subtype = v[4] if len(v) > 4 else 0  # shorter only where no step gave the element
-    if subtype != 2:
-        return "binary", subtype, *trimmed(v, base, 5)
+    if v[4] != 2:
+        return "binary", v[4], *trimmed(v, base, 5)
     unless(len(v) >= 9 and signed(v[5:], 4) == len(v) - 9, 12)
     return "binary", 2, *trimmed(v, base, 9)
 
@@ -223,19 +222,13 @@ def content(v, tag, base):
     if tag == 0x11:
         return "timestamp", unsigned(v, 4), unsigned(v[4:], 4)
     if tag == 0x0C:
-        return "dbpointer", *text(v, base, 13), *trimmed(v, base, max(len(v) - 12, 0))
+        return "dbpointer", *text(v, base, 13), *trimmed(v, base, len(v) - 12)
     return {0x05: binary_value, 0x0B: regex_value, 0x0F: scope_value}[tag](v, base)
 
 
-def value_in(s, tag, offset, size):
-    """The value of a tag in a part of the slice, which of an element that no step gave may run past it (docs/DECISIONS.md)."""
-    unless(offset + size <= len(s), 9)
-    unless(tag in FIXED or tag in FRAMED, 7)
-    return content(s[offset : offset + size], tag, offset)
-
-
 def value_of(s, e):
-    return at(e.place, value_in, s, e.tag, e.offset, e.size)
+    """The value of an element that a step gave."""
+    return at(e.place, content, s[e.offset : e.offset + e.size], e.tag, e.offset)
 
 
 # ---- values at a place

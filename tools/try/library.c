@@ -27,7 +27,7 @@ typedef struct {
     uint64_t numbers[2];
 } in_registers;
 typedef struct {
-    uint64_t numbers[203]; /* a writer: the most that is returned */
+    uint64_t numbers[203]; /* a state: the most that is returned */
 } in_memory;
 typedef in_registers (*gives_registers)(ARGUMENTS(TYPE));
 typedef in_memory (*gives_memory)(ARGUMENTS(TYPE));

@@ -1,26 +1,29 @@
 #!/usr/bin/env python3
-"""Holds the C library against the rules of docs/RULES.md: every boundary function is called as C calls it, and every field that it returns and every
-byte that it was lent for writing must be what these say (tools/rules).
+"""Holds the C library against the rules of docs/RULES.md: every boundary function is called as C calls it, and every field that it returns
+and every byte that it was lent for writing must be what these say (tools/rules). Padding in what is returned is not looked at.
 
-Asked whole: the documents of the list, and those that are listed under a limit under each of theirs; the sessions of the writer, call by call; all
-pairs of RULES.md's own bytes to join; slices of each size up to 71 bytes, the check of them under limits too; texts of two characters; texts of
-zeros but for one byte; values of each tag in each part of some slices; calls of the writer at the greatest room. Sampled: every third document under
-one of its limits, in turn; by seeds 3,000 damaged copies of the documents, and of the pairs of documents 1,000 of each kind, good or damaged before
-good or damaged.
+Asked whole: the documents of the list, and those that are listed under a limit under each of theirs; the sessions of the writer, call by
+call; all pairs of RULES.md's own bytes to join; slices of each size up to 71 bytes, the check of them under limits too; texts of two
+characters; texts of zeros but for one byte; calls of the writer at the greatest room; the version, which the header says. Sampled: every
+third document under one of its limits, in turn; by seeds 3,000 damaged copies of the documents, and of the pairs of documents 1,000 of each
+kind, good or damaged before good or damaged.
 
-Of each document and each damaged copy, without a limit and under one, the steps from offset 4 are followed by the library's own answers, apart from the
-rules: the elements must lie one behind the other, and their sizes add up, as the header says of a step.
+Of each document and each damaged copy, without a limit and under one, the steps from offset 4 are followed by the library's own answers,
+apart from the rules: the elements must lie one behind the other, and their sizes add up, as the header says of a step; and the next element
+must have the key, the framed bytes and the cursor of the step from the same offset.
 
-Then the tool is tried itself, on some of the questions: each byte of an answer is changed behind the call, which must be reported, and the rules are
-made wrong, each of which must show as a difference.
+Then the tool is tried itself, on some of the questions: each byte of an answer that is no padding is changed behind the call, which must be
+reported, and the rules are made wrong, each of which must show as a difference.
 
 usage: tools/try/library.py ARCHIVE                the static library; needs cc
        tools/try/library.py --smallest ARCHIVE     of a library that may be wrong: prints the smallest question that differs, if one does
 """
+import re
 import struct
 import subprocess
 import sys
 from array import array
+from contextlib import suppress
 from itertools import accumulate, chain, count, islice, product, repeat
 from pathlib import Path
 from tempfile import TemporaryDirectory
@@ -29,73 +32,72 @@ from unittest.mock import patch
 ROOT = Path(__file__).resolve().parents[2]
 sys.path.insert(0, str(ROOT / "tools"))
 from make.cases import NUMBERS, RETURNED, documents, under_limit
-from rules import joining, rules, writing
-from rules.documents import ARRAYS, FIELDS, ID, OLD_BINARY, ROWS, SAMPLES, Dice, around, array_limits, bytes_to_try, doc, element, gets, keyed, le
-from rules.documents import limited, resized, row_texts, short_beacon, text
+from rules import boundary, joining, rules, writing
+from rules.boundary import Element, Joined, State, Stepped, Value, Verdict, Version, Written, packed, unpacked, verdict
+from rules.documents import ARRAYS, FIELDS, ID, ROWS, Dice, around, array_limits, bytes_to_try, doc, element, gets, keyed, le, limited
+from rules.documents import resized, row_texts, short_beacon, text
 from rules.rules import Refused
 from rules.writing import hexed, replayed, session
 
 # ---- the boundary
 
-# what is returned: 64-bit numbers, by their names
-VERDICT = "number place count".split(" ")
-FOUND = "number place tag offset size".split(" ")
-JOINED = "number place which length".split(" ")
-STEPPED = "number place ended next tag key_offset key_size offset size".split(" ")
-VALUE = "number place tag bits offset size offset2 size2".split(" ")
-WRITTEN = "number used".split(" ")
-WRITER = ["words"] * 203  # two of the state's 406 in each
-
 # kinds of arguments: bytes and their size, bytes of a known size, a state and a buffer to write in; numbers of 64 bits, of 32 or one, and of 8
 SLICE, ARRAY, STATE, OUT, WHOLE, HALF, BYTE = "slice", "array", "state", "out", "whole", "half", "byte"
 LENT = (SLICE, ARRAY, STATE, OUT)
-CALL = (WRITTEN, STATE, OUT)
+CALL = (Written, STATE, OUT)
 FUNCTIONS = {
-    "check": (VERDICT, SLICE),
-    "check_strict": (VERDICT, SLICE),
-    "is_empty": (VERDICT, SLICE),
-    "lookup": (FOUND, SLICE, SLICE),
-    "lookup_typed": (FOUND, SLICE, SLICE, BYTE),
-    "step": (STEPPED, SLICE, WHOLE, HALF),
-    "read": (VALUE, SLICE, WHOLE),
-    "check_under": (VERDICT, SLICE, WHOLE),
-    "check_strict_under": (VERDICT, SLICE, WHOLE),
-    "lookup_under": (FOUND, SLICE, SLICE, WHOLE),
-    "lookup_typed_under": (FOUND, SLICE, SLICE, BYTE, WHOLE),
-    "step_under": (STEPPED, SLICE, WHOLE, HALF, WHOLE),
-    "read_under": (VALUE, SLICE, WHOLE, WHOLE),
-    "value_of": (VALUE, SLICE, WHOLE, BYTE, WHOLE, WHOLE),
-    "join": (JOINED, SLICE, SLICE, OUT),
-    "writer_new": (WRITER,),
-    "writer_open": CALL,
-    "writer_open_document": (*CALL, SLICE),
-    "writer_open_array": (*CALL, SLICE),
-    "writer_close": CALL,
-    "append_double": (*CALL, SLICE, WHOLE),
-    "append_bool": (*CALL, SLICE, HALF),
-    "append_int32": (*CALL, SLICE, HALF),
-    "append_int64": (*CALL, SLICE, WHOLE),
-    "append_datetime": (*CALL, SLICE, WHOLE),
-    "append_timestamp": (*CALL, SLICE, HALF, HALF),
-    "append_null": (*CALL, SLICE),
-    "append_undefined": (*CALL, SLICE),
-    "append_min_key": (*CALL, SLICE),
-    "append_max_key": (*CALL, SLICE),
-    "append_string": (*CALL, SLICE, SLICE),
-    "append_code": (*CALL, SLICE, SLICE),
-    "append_symbol": (*CALL, SLICE, SLICE),
-    "append_binary": (*CALL, SLICE, BYTE, SLICE),
-    "append_regex": (*CALL, SLICE, SLICE, SLICE),
-    "append_dbpointer": (*CALL, SLICE, SLICE, ARRAY),
-    "append_object_id": (*CALL, SLICE, ARRAY),
-    "append_decimal128": (*CALL, SLICE, ARRAY),
+    "check": (Verdict, SLICE),
+    "check_strict": (Verdict, SLICE),
+    "is_empty": (Verdict, SLICE),
+    "lookup": (Value, SLICE, SLICE),
+    "lookup_typed": (Value, SLICE, SLICE, BYTE),
+    "next": (Element, SLICE, WHOLE, HALF),
+    "step": (Stepped, SLICE, WHOLE, HALF),
+    "read": (Value, SLICE, WHOLE),
+    "check_under": (Verdict, SLICE, WHOLE),
+    "check_strict_under": (Verdict, SLICE, WHOLE),
+    "lookup_under": (Value, SLICE, SLICE, WHOLE),
+    "lookup_typed_under": (Value, SLICE, SLICE, BYTE, WHOLE),
+    "next_under": (Element, SLICE, WHOLE, HALF, WHOLE),
+    "step_under": (Stepped, SLICE, WHOLE, HALF, WHOLE),
+    "read_under": (Value, SLICE, WHOLE, WHOLE),
+    "join": (Joined, SLICE, SLICE, OUT),
+    "version": (Version,),
+    "state_new": (State,),
+    "state_open": CALL,
+    "state_open_document": (*CALL, SLICE),
+    "state_open_array": (*CALL, SLICE),
+    "state_close": CALL,
+    "state_append_double": (*CALL, SLICE, WHOLE),
+    "state_append_bool": (*CALL, SLICE, HALF),
+    "state_append_int32": (*CALL, SLICE, HALF),
+    "state_append_int64": (*CALL, SLICE, WHOLE),
+    "state_append_datetime": (*CALL, SLICE, WHOLE),
+    "state_append_timestamp": (*CALL, SLICE, HALF, HALF),
+    "state_append_null": (*CALL, SLICE),
+    "state_append_undefined": (*CALL, SLICE),
+    "state_append_min_key": (*CALL, SLICE),
+    "state_append_max_key": (*CALL, SLICE),
+    "state_append_string": (*CALL, SLICE, SLICE),
+    "state_append_code": (*CALL, SLICE, SLICE),
+    "state_append_symbol": (*CALL, SLICE, SLICE),
+    "state_append_binary": (*CALL, SLICE, BYTE, SLICE),
+    "state_append_regex": (*CALL, SLICE, SLICE, SLICE),
+    "state_append_dbpointer": (*CALL, SLICE, SLICE, ARRAY),
+    "state_append_object_id": (*CALL, SLICE, ARRAY),
+    "state_append_decimal128": (*CALL, SLICE, ARRAY),
 }
 NUMBERED = {name: i for i, name in enumerate(FUNCTIONS)}
-# the words of a session whose function is not named `append_` and the word
-NAMED = {"open": "writer_open", "close": "writer_close", "document": "writer_open_document", "array": "writer_open_array"}
-NAMED |= {"boolean": "append_bool", "minkey": "append_min_key", "maxkey": "append_max_key", "objectid": "append_object_id"}
+# the words of a session whose function is not named `append_` and the word, behind `state_`
+NAMED = {"document": "open_document", "array": "open_array", "boolean": "append_bool", "objectid": "append_object_id"}
+NAMED |= {"open": "open", "close": "close", "minkey": "append_min_key", "maxkey": "append_max_key"}
 GUARD = b"\xa5" * 8  # before and behind a buffer
 UPPER = 0xEEEEEEEE << 32  # what a caller in C may leave in the upper half of the register of a narrow number
+
+
+def function_of(word):
+    """The function that a word of a session calls."""
+    return f"state_{NAMED.get(word, f'append_{word}')}"
 
 
 class End(bytes):
@@ -151,8 +153,20 @@ def packed_call(name, args, near, spoiled):
             words.append(arg if kind == WHOLE else arg | UPPER)
     words += [0] * (WORDS - len(words))
     sizes = [n for data, written in areas for n in (len(data), written)] + [0, 0] * (len(ENDS) - len(areas))
-    asked = ASKED.pack(NUMBERED[name], 8 * len(answer), spoiled, *words, *sizes)
-    return b"".join([asked, *(data for data, _ in areas)]), 8 * len(answer) + sum(sizes[1::2])
+    asked = ASKED.pack(NUMBERED[name], answer.layout.size, spoiled, *words, *sizes)
+    return b"".join([asked, *(data for data, _ in areas)]), answer.layout.size + sum(sizes[1::2])
+
+
+def parted(name, memory):
+    """What is returned, by its fields; and the state and the buffer that are left behind it."""
+    answer = FUNCTIONS[name][0]
+    return unpacked(answer, memory[: answer.layout.size]), memory[answer.layout.size :]
+
+
+def without_padding(name, memory):
+    """An answer whose bytes of padding are 0."""
+    returned, left = parted(name, memory)
+    return packed(returned) + left
 
 
 class Library:
@@ -170,64 +184,17 @@ class Library:
         if ran.returncode:
             name, args, *_ = next(c for c, end in zip(calls, ends) if end > len(ran.stdout))
             sys.exit(f"differs: {in_c(name, args)}\n  library: ends the program, with status {ran.returncode}")
-        return [ran.stdout[end - size : end] for end, size in zip(ends, sizes)]
+        return [without_padding(name, ran.stdout[end - size : end]) for (name, *_), end, size in zip(calls, ends, sizes)]
 
 
 # ---- questions: a function, its arguments, and the bytes that the rules make of its answer
-
-
-def packed(answer, *fields):
-    """A struct's bytes; fields that are not given are 0."""
-    return struct.pack(f"<{len(answer)}Q", *fields, *[0] * (len(answer) - len(fields)))
-
-
-def said(rule, *args):
-    try:
-        return rule(*args)
-    except Refused as r:
-        return r.number, r.place
-
-
-def verdict(rule, *args):
-    return 0, 0, rule(*args)
-
-
-def found(rule, *args):
-    e, _ = rule(*args)
-    return 0, e.place, e.tag, e.offset, e.size
-
-
-def stepped(s, offset, ended, limit=None):
-    """The step, and the cursor behind it."""
-    try:
-        e = rules.step_from(s, offset, ended, limit)
-    except Refused as r:
-        return r.number, r.place, 1, offset
-    if not e:
-        return 0, 0, 1, offset
-    return 0, e.place, 0, e.offset + e.size, e.tag, e.place + 1, len(e.key), e.offset, e.size
-
-
-def value(rule, *args):
-    """An element and its value by a rule, in numbers."""
-    e, (word, *content) = rule(*args)
-    bits = 0
-    if e.tag in rules.NUMBERS or word == "binary":
-        bits = content.pop(0) % 2**64
-    elif word == "timestamp":
-        bits, content = content[0] + 2**32 * content[1], ()
-    return 0, 0, e.tag, bits, *content
-
-
-def read_given(s, e):
-    return e, rules.value_of(s, e)
 
 
 def question(name, rule, *args, asked, limit=None):
     """With a limit, that to the function which takes one behind all else, as its rule does."""
     if limit is not None:
         return question(f"{name}_under", rule, *args, limit, asked=(*asked, limit))
-    return name, asked, packed(FUNCTIONS[name][0], *said(rule, *args))
+    return name, asked, packed(rule(*args))
 
 
 def yielded(s):
@@ -249,13 +216,18 @@ def reached(elements):
     return [4, *(e.offset + e.size for e in elements)]
 
 
+def at_cursor(*cursor, limit):
+    yield question("step", boundary.stepped, *cursor, asked=cursor, limit=limit)
+    yield question("next", boundary.next_element, *cursor, asked=cursor, limit=limit)
+
+
 def at_places(s, elements, limit):
-    """From each offset that steps reach, and from others: the step with the mark and without, and the value."""
+    """From each offset that steps reach, and from others: the step and the next element with the mark and without, and the value."""
     inside = [e.place + 1 for e in elements]
     for offset in dict.fromkeys([*reached(elements), *inside, max(len(s) - 1, 0), len(s), len(s) + 1, *STRANGE]):
         for ended in (False, True):
-            yield question("step", stepped, s, offset, ended, asked=(s, offset, ended), limit=limit)
-        yield question("read", value, rules.read_at, s, offset, asked=(s, offset), limit=limit)
+            yield from at_cursor(s, offset, ended, limit=limit)
+        yield question("read", boundary.found, rules.read_at, s, offset, asked=(s, offset), limit=limit)
 
 
 def lookups(s, elements, asks, limit):
@@ -264,9 +236,9 @@ def lookups(s, elements, asks, limit):
     keys = [*tags, *(key + b"\0" for key in [*tags][:1]), b"", b"absent", b"\0", b"\xff", *(key for _, key, *_ in asks)]
     pairs = [(key, tag) for key in keys for tag in (tags.get(key, 0x10), 0x02 if tags.get(key) == 0x10 else 0x10, 0x00, 0x14)]
     for key in dict.fromkeys(keys):
-        yield question("lookup", found, rules.get, s, key, asked=(s, key), limit=limit)
+        yield question("lookup", boundary.found, rules.get, s, key, asked=(s, key), limit=limit)
     for key, tag in dict.fromkeys([*pairs, *(ask[1:] for ask in asks if ask[0] == "typed")]):
-        yield question("lookup_typed", found, rules.get_with, s, key, tag, asked=(s, key, tag), limit=limit)
+        yield question("lookup_typed", boundary.found, rules.get_with, s, key, tag, asked=(s, key, tag), limit=limit)
 
 
 def reading(s, asks=(), limit=None):
@@ -282,8 +254,6 @@ def about(s, asks=()):
     """All questions about one document without a limit."""
     yield from reading(s, asks)
     yield question("is_empty", verdict, rules.is_empty, s, asked=(s,))
-    for e in yielded(s):
-        yield question("value_of", value, rules.read_at, s, e.place, asked=(s, e.place, e.tag, e.offset, e.size))
 
 
 # ---- under a limit
@@ -293,12 +263,13 @@ def sizes_met(s):
     """The sizes of the keys, patterns and options in a document and below it, as far as steps and values are not refused."""
     for e in yielded(s):
         yield len(e.key)
-        word, *numbers = said(rules.value_of, s, e)
-        if word == "regex":
-            yield from numbers[1::2]
-        if word in rules.OPENS:
-            offset, size = numbers[-2:]
-            yield from sizes_met(s[offset : offset + size])
+        with suppress(Refused):
+            word, *numbers = rules.value_of(s, e)
+            if word == "regex":
+                yield from numbers[1::2]
+            if word in rules.OPENS:
+                offset, size = numbers[-2:]
+                yield from sizes_met(s[offset : offset + size])
 
 
 def limits_of(s):
@@ -319,30 +290,11 @@ def under_limits():
 
 
 def along_under_limits():
-    """Every document, and every damaged copy, under one of its own limits, in turn: the steps."""
+    """Every document, and every damaged copy, under one of its own limits, in turn: the steps and the next elements."""
     for i, d in enumerate(chain((d for d, _ in documents()), damaged(DAMAGED))):
         limits = limits_of(d)
         for offset in reached(yielded(d)):
-            yield question("step", stepped, d, offset, False, asked=(d, offset, False), limit=limits[i % len(limits)])
-
-
-# ---- elements of the caller's own
-
-TAGS = (*rules.FIXED, *rules.FRAMED, 0x00, 0x14)
-
-
-def own_parts(s):
-    """Every part of a slice, those that run past it by a byte among them, and some far outside, where offset and size add up past 64 bits."""
-    yield from ((offset, size) for offset in range(len(s) + 2) for size in range(len(s) + 2 - offset))
-    yield from product(STRANGE, repeat=2)
-
-
-def own_elements():
-    """Each tag in each part of the samples of framed values, whatever a step would say; most of the slices are no documents."""
-    for s in (b"", OLD_BINARY, *(SAMPLES[tag] for tag in rules.FRAMED)):
-        for tag, (offset, size) in product(TAGS, own_parts(s)):
-            e = rules.Element(2**64 - 1 - tag, tag, b"", offset, size)
-            yield question("value_of", value, read_given, s, e, asked=(s, e.place, tag, offset, size))
+            yield from at_cursor(d, offset, False, limit=limits[i % len(limits)])
 
 
 # ---- slices of each size up to two blocks of 32 bytes and more, since bytes are scanned and copied in blocks; and of one that needs three bytes
@@ -442,8 +394,8 @@ def joined(first, second):
     exact = max(len(first) + len(second) - 5, 0)
     for room in dict.fromkeys((exact, max(exact - 1, 0), 0, exact + 9)):
         buffer = b"\xee" * room
-        fields, left = joining.join(first, second, buffer)
-        yield "join", (first, second, buffer), packed(JOINED, *fields) + GUARD + left + GUARD
+        (number, place, which, length), left = joining.join(first, second, buffer)
+        yield "join", (first, second, buffer), packed(Joined(number, which, place, length)) + GUARD + left + GUARD
 
 
 def telling_pairs():
@@ -454,7 +406,7 @@ def telling_pairs():
 def pairs_at_random(count):
     """Of each kind, good or damaged before good or damaged, so many."""
     dice = Dice(20261118)
-    numbers_of = {d: said(verdict, rules.check, d)[0] for d, _ in documents()}
+    numbers_of = {d: verdict(rules.check, d).number for d, _ in documents()}
     good, bad = ([d for d, n in numbers_of.items() if (n > 0) == refused] for refused in (False, True))
     for first, second in product((good, bad), repeat=2):
         for _ in range(count):
@@ -511,24 +463,34 @@ def of_session(line):
     """A session's calls, each with the state and the buffer that the rules leave before it."""
     head, *calls = line.split("; ")
     writer = fresh(int(head.split(" ")[1]))
-    yield "writer_new", (), lent(writer)[0]
+    yield "state_new", (), packed(State(lent(writer)[0]))
     for word, *fields in (call.split(" ") for call in calls):
         if word == "word":
             writer.words[int(fields[0])] = int(fields[1])
             continue
-        name = NAMED.get(word, f"append_{word}")
+        name = function_of(word)
         before = after = lent(writer)
         try:
             writer.call(word, *fields)
-            answer, after = (0, writer.used), lent(writer)
+            answer, after = Written(used=writer.used), lent(writer)
         except Refused as r:
-            answer = (r.number,)
+            answer = Written(number=r.number)
         args = map(argument, FUNCTIONS[name][3:], fields)
-        yield name, (*before, *args), packed(WRITTEN, *answer) + after[0] + GUARD + after[1] + GUARD
+        yield name, (*before, *args), packed(answer) + after[0] + GUARD + after[1] + GUARD
 
 
 def all_sessions():
     return chain.from_iterable(of_session(line) for line in chain(writing.sessions(), sized_sessions(), long_sessions()))
+
+
+# ---- the version
+
+
+def version():
+    """What the header says."""
+    header = (ROOT / "include/fringewell.h").read_text()
+    major, minor, patch = (int(re.search(rf"VERSION_{part} (\d+)$", header, re.M)[1]) for part in ("MAJOR", "MINOR", "PATCH"))
+    return "version", (), packed(Version(1000000 * major + 1000 * minor + patch))
 
 
 # ---- the comparison
@@ -538,19 +500,15 @@ def shown(arg):
     """Bytes in hexadecimal, a state without the zeros at its end."""
     if not isinstance(arg, bytes):
         return str(arg)
-    return (arg.rstrip(b"\0") if len(arg) == 8 * len(WRITER) else arg).hex() or "-"
+    return (arg.rstrip(b"\0") if len(arg) == State.layout.size else arg).hex() or "-"
 
 
 def in_words(name, memory):
     """An answer's fields by their names, then the state and the buffer."""
-    answer, *kinds = FUNCTIONS[name]
-    if answer is WRITER:
-        return shown(memory)
-    size = 8 * len(answer)
-    fields = [f"{field} {n}" for field, (n,) in zip(answer, struct.iter_unpack("<Q", memory[:size]))]
-    rest = memory[size:]
-    state = 8 * len(WRITER) if STATE in kinds else 0
-    return ", ".join([*fields, *(shown(part) for part in (rest[:state], rest[state:]) if part)])
+    returned, left = parted(name, memory)
+    fields = [f"{field} {shown(n)}" for field, n in returned._asdict().items()]
+    state = State.layout.size if STATE in FUNCTIONS[name] else 0
+    return ", ".join([*fields, *(shown(part) for part in (left[:state], left[state:]) if part)])
 
 
 def in_c(name, args):
@@ -580,76 +538,105 @@ def kinds_of_questions():
     yield chain.from_iterable(about(d, asks) for d, asks in chain(documents(), sized_documents()))
     yield under_limits()
     yield along_under_limits()
-    yield own_elements()
     yield chain(texts_of_two(), lone_bytes())
     yield chain.from_iterable(joined(*pair) for pair in chain(telling_pairs(), sized_pairs(), pairs_at_random(1000)))
     yield chain.from_iterable(about(d) for d in damaged(DAMAGED))
+    yield [version()]
 
 
 # ---- sums: where the steps of a document lead
 
 
 def is_admitted(s):
-    return said(verdict, rules.is_empty, s)[0] == 0
+    return verdict(rules.is_empty, s).number == 0
 
 
 def misled(s, steps):
     """What is wrong with the steps of an admitted document from offset 4 on, by the header's words on fringewell_step."""
     told = 0
     while 4 + told in steps:
-        number, place, ended, behind, _, key_offset, key_size, offset, size = steps[4 + told]
-        if number:
-            right = number > 3 and ended and place == behind == 4 + told and (number == 4) == (4 + told >= len(s))
-            return None if right else f"refused by {number} at {place}, behind {told} bytes of elements"
-        if ended:
-            return None if behind == 4 + told == len(s) - 1 else f"ended at {behind}, behind {told} bytes of elements"
-        if (place, key_offset, offset, behind) != (4 + told, place + 1, key_offset + key_size + 1, offset + size):
-            return f"at {place} with key {key_offset}, value {offset} and next {behind}, behind {told} bytes of elements"
-        told += 1 + key_size + 1 + size
+        step = steps[4 + told]
+        if step.number:
+            right = step.number > 3 and step.ended and step.place == step.next == 4 + told and (step.number == 4) == (4 + told >= len(s))
+            return None if right else f"refused by {step.number} at {step.place}, behind {told} bytes of elements"
+        if step.ended:
+            return None if step.next == 4 + told == len(s) - 1 else f"ended at {step.next}, behind {told} bytes of elements"
+        key, framed, behind = step.place + 1, step.key_offset + step.key_size + 1, step.framed_offset + step.framed_size
+        if (step.place, step.key_offset, step.framed_offset, step.next) != (4 + told, key, framed, behind):
+            return f"{step}, behind {told} bytes of elements"
+        told += 1 + step.key_size + 1 + step.framed_size
     return f"no step asked at {4 + told}"
 
 
+def beside(steps, elements):
+    """What is wrong with the next element from an offset, held against the step from there, by the header's words on fringewell_next."""
+    for offset, step in steps.items():
+        shared = Stepped(**{field: getattr(elements[offset], field) for field in Stepped._fields})
+        if step != (shared if step.ended else shared._replace(number=0)):
+            return f"at {offset} {step}, but {elements[offset]}"
+
+
 class Sums:
-    """Takes the steps with an open cursor, one document after the other, each under one limit or none; and follows them, document by document."""
+    """Takes the steps and the next elements with an open cursor, one document after the other, each under one limit or none; and follows
+    them, document by document."""
 
     def __init__(self):
-        self.asked, self.steps, self.followed, self.wrong = None, {}, 0, []
+        self.asked, self.steps, self.elements, self.followed, self.wrong = None, {}, {}, 0, []
 
     def take(self, name, args, answer):
-        if name not in ("step", "step_under") or args[2]:
+        kind = FUNCTIONS[name][0]
+        if kind not in (Stepped, Element) or args[2]:
             return
         s, offset, _, *limit = args
         if (s, limit) != self.asked:
             self.follow()
-            self.asked, self.steps = (s, limit), {}
-        self.steps[offset] = struct.unpack("<9Q", answer)
+            self.asked, self.steps, self.elements = (s, limit), {}, {}
+        taken = self.steps if kind is Stepped else self.elements
+        taken[offset] = unpacked(kind, answer)
 
     def follow(self):
         """The document that was asked last, where it is admitted."""
         if not self.asked or not is_admitted(self.asked[0]):
             return
         self.followed += 1
-        if wrong := misled(self.asked[0], self.steps):
+        if wrong := misled(self.asked[0], self.steps) or beside(self.steps, self.elements):
             self.wrong.append(f"{shown(self.asked[0])} under {self.asked[1]}: {wrong}")
 
 
+def spoiled_steps(step):
+    """A step with another number: each of an element's, of an end's and of a refusal's that a caller goes by."""
+    going = {"place", "key_offset", "key_size", "framed_offset", "framed_size", "next"}
+    fields = going if not step.ended else {"next", "place"} if step.number else {"next"}
+    changes = [{field: getattr(step, field) + 1} for field in fields]
+    return [step._replace(**change) for change in [*changes, {"number": 7 if step.number == 4 else 4}, {"number": 1}]]
+
+
+def spoiled_elements(e):
+    """A next element with another number in each field that a step has too; of one that is given the refusal's is the value's own."""
+    fields = {*Stepped._fields} - (set() if e.ended else {"number"})
+    return [e._replace(**{field: getattr(e, field) + 1}) for field in fields]
+
+
 def try_sums():
-    """A number that leads elsewhere is reported: each of an element's, of an end's and of a refusal's that a caller goes by. In the list are codes with
-    scope of length 0 to 3, behind which the next step begins on their own length."""
+    """A step that leads elsewhere, and a next element that differs from its step, is reported. In the list are codes with scope of length
+    0 to 3, behind which the next step begins on their own length."""
     assert {0, 1, 2, 3} <= {e.size for d, _ in documents() for e in yielded(d) if e.tag == 0x0F}
     tried = 0
     for s in (short_beacon(), *(d for d, _ in bytes_to_try() if is_admitted(d))):
-        steps = {offset: (*stepped(s, offset, False), *[0] * 9)[:9] for offset in reached(yielded(s))}
-        assert misled(s, steps) is None, s.hex()
+        steps = {offset: boundary.stepped(s, offset, False) for offset in reached(yielded(s))}
+        elements = {offset: boundary.next_element(s, offset, False) for offset in steps}
+        assert not misled(s, steps) and not beside(steps, elements), s.hex()
         for offset, step in steps.items():
-            going = {"place", "key_offset", "key_size", "offset", "size", "next"}
-            fields = going if not step[2] else {"next", "place"} if step[0] else {"next"}
-            spoiled = [(STEPPED.index(field), step[STEPPED.index(field)] + 1) for field in fields]
-            spoiled += [(0, 7 if step[0] == 4 else 4), (0, 1)]
-            for i, n in spoiled:
-                assert misled(s, steps | {offset: (*step[:i], n, *step[i + 1 :])}), (s.hex(), offset, STEPPED[i])
-                tried += 1
+            wrong = [misled(s, steps | {offset: spoiled}) for spoiled in spoiled_steps(step)]
+            wrong += [beside(steps, elements | {offset: spoiled}) for spoiled in spoiled_elements(elements[offset])]
+            assert all(wrong), (s.hex(), offset)
+            tried += len(wrong)
     return tried
+
+
+def number_in(name, answer):
+    """The number that an answer begins with; 0 of one that has none."""
+    return answer[0] if FUNCTIONS[name][0]._fields[0] == "number" else 0
 
 
 def compare(library):
@@ -658,7 +645,7 @@ def compare(library):
     firsts, sums = {}, Sums()
     for name, args, answer, expected in answered(library, chain.from_iterable(kinds_of_questions())):
         asked += 1
-        firsts.setdefault((name, expected[0]), (name, args, expected))
+        firsts.setdefault((name, number_in(name, expected)), (name, args, expected))
         sums.take(name, args, answer)
         if answer != expected:
             differ += 1
@@ -693,19 +680,24 @@ REFUSALS = {
     "is_empty": NUMBERS["empty"],
     "lookup": NUMBERS["get"],
     "lookup_typed": NUMBERS["typed"],
+    "next": NUMBERS["admission"] | NUMBERS["at"] | NUMBERS["value"],
     "step": NUMBERS["admission"] | NUMBERS["at"],
     "read": NUMBERS["admission"] | NUMBERS["at"] | NUMBERS["value"] | {16},
-    "value_of": NUMBERS["value"] | {5, 7},  # these two of an element that no step gave
     "join": NUMBERS["check"] | {14},
-    "writer_new": set(),
-} | {NAMED.get(word, f"append_{word}"): returned for word, returned in RETURNED.items()}
+    "version": set(),
+    "state_new": set(),
+} | {function_of(word): returned for word, returned in RETURNED.items()}
 REFUSALS |= {name: under_limit(REFUSALS[name.removesuffix("_under")]) for name in FUNCTIONS if name.endswith("_under")}
 
 
+def is_padding(layout, n):
+    return n < layout.size and not any(layout.unpack(bytes(n) + b"\1" + bytes(layout.size - n - 1)))
+
+
 def try_bytes(library, firsts):
-    """Each byte of an answer is compared, whichever number it has."""
+    """Each byte of an answer that is no padding is compared, whichever number it has."""
     assert firsts.keys() == {(name, n) for name, refusals in REFUSALS.items() for n in {0, *refusals}}, firsts.keys()
-    spoiled = [(q, n) for q in firsts.values() for n in range(len(q[2]))]
+    spoiled = [(q, n) for q in firsts.values() for n in range(len(q[2])) if not is_padding(FUNCTIONS[q[0]][0].layout, n)]
     for (_, n), (*q, answer, expected) in zip(spoiled, answered(library, *zip(*spoiled))):
         if answer == expected:
             sys.exit(f"not reported: byte {n} of the answer changed in {report(*q, answer, expected)}")
@@ -732,13 +724,25 @@ def scope_of_14(v, right=rules.scope):
     return right(v)
 
 
-def framed_anew(s, tag, offset, size, right=rules.value_in):
-    return right(s, tag, offset, rules.value_size(tag, s[offset:]))
-
-
 def last_match(s, key, limit=None, right=rules.get):
     matches = [e for e in yielded(s) if e.key == key]
     return (matches[-1], rules.value_of(s, matches[-1])) if matches else right(s, key, limit)
+
+
+def answered_by(rule, change):
+    """A rule of the boundary that answers with a change."""
+    right = getattr(boundary, rule)
+    return patch.object(boundary, rule, lambda *args: change(right(*args)))
+
+
+def where_refused(**fields):
+    """Other fields of a value that is refused."""
+    return answered_by("read", lambda told: told | fields if told["number"] else told)
+
+
+def next_at(cursor, right=boundary.next_element):
+    """The next element from another cursor, or under another limit."""
+    return patch.object(boundary, "next_element", lambda *given: right(*cursor(*given)))
 
 
 def other_limit(changed, right=rules.cstring):
@@ -799,7 +803,7 @@ def key_after_depth(s, e, depth, position, right=rules.visit):
 
 def key_before_limit(s, strict=False, limit=None, right=rules.check):
     """No limit where there is a bad key."""
-    return right(s, strict, None if said(verdict, right, s, strict)[0] == 19 else limit)
+    return right(s, strict, None if verdict(right, s, strict).number == 19 else limit)
 
 
 def second_first(first, second, buffer, right=joining.join):
@@ -812,10 +816,25 @@ WRONG_READING = {
     "a value that swallows the terminator ends": patch.object(rules, "step", swallowing_ends),
     "a short code with scope is not framed": patch.dict(rules.FRAMED, {0x0F: scope_of_14}),
     "the tag is tested before the key": patch.object(rules, "element", tag_first),
-    "a value's own part is framed anew": patch.object(rules, "value_in", framed_anew),
     "the last match is found": patch.object(rules, "get", last_match),
     "a scope lies one deeper": patch.dict(rules.OPENS, codewithscope=1),
     "every text is UTF-8": patch.object(rules, "is_utf8", lambda v: True),
+}
+WRONG_ANSWERS = {
+    "a value has no place": answered_by("valued", lambda v: v._replace(place=0)),
+    "framed bytes stand for the part": answered_by("valued", lambda v: v._replace(offset=v.framed_offset, size=v.framed_size)),
+    "the part stands for the framed bytes": answered_by("valued", lambda v: v._replace(framed_offset=v.offset, framed_size=v.size)),
+    "an int32 has 32 bits": answered_by("valued", lambda v: v._replace(bits=v.bits % 2**32) if v.tag == 0x10 else v),
+    "a refused value has no tag": where_refused(tag=0),
+    "a refused value has no place": where_refused(place=0),
+    "a refused value has no framed bytes": where_refused(framed_offset=0, framed_size=0),
+    "a refused value ends the iteration": answered_by("next_element", lambda e: e._replace(ended=1) if e.number else e),
+    "a refused value is not passed": answered_by("next_element", lambda e: e if e.ended or not e.number else e._replace(next=e.place)),
+    "an element has no key": answered_by("next_element", lambda e: e._replace(key_offset=0, key_size=0)),
+    "a key has its zero": answered_by("next_element", lambda e: e if e.ended else e._replace(key_size=e.key_size + 1)),
+    "an end has a place": answered_by("next_element", lambda e: e._replace(place=e.next) if e.ended and not e.number else e),
+    "an ended cursor goes on": next_at(lambda s, offset, _: (s, offset, False)),
+    "the next element is one further": next_at(lambda s, offset, ended: (s, boundary.stepped(s, offset, ended).next, ended)),
 }
 WRONG_LIMITS = {
     "a text of the limit's size is too long": other_limit(lambda limit: limit - 1),
@@ -826,6 +845,7 @@ WRONG_LIMITS = {
     "a regex has no limit": patch.dict(rules.FRAMED, {0x0B: lambda v, limit: rules.regex(v)}),
     "the key that is looked up is limited": patch.object(rules, "get", key_limited),
     "what is nested has no limit": patch.object(rules, "inside", below_unlimited),
+    "the next element has no limit": next_at(lambda s, offset, ended, limit: (s, offset, ended)),
 }
 WRONG_KEYS = {
     "any digits are a key of an array": other_key(lambda key, position, right: key.isdigit()),
@@ -858,7 +878,7 @@ WRONG_WRITING = {
 
 
 def some_reading():
-    return chain(own_elements(), chain.from_iterable(about(d) for d, _ in documents()[::5]))
+    return chain.from_iterable(about(d) for d, _ in documents()[::5])
 
 
 def strict_checks():
@@ -875,7 +895,7 @@ def all_telling():
 
 def try_rules(library):
     """A wrong rule shows as a difference."""
-    tried = [(some_reading, WRONG_READING), (under_limits, WRONG_LIMITS), (strict_checks, WRONG_KEYS)]
+    tried = [(some_reading, WRONG_READING | WRONG_ANSWERS), (under_limits, WRONG_LIMITS), (strict_checks, WRONG_KEYS)]
     tried += [(all_telling, WRONG_JOINING), (all_sessions, WRONG_WRITING)]
     for questions, rules_of in tried:
         for what, wrong in rules_of.items():

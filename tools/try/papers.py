@@ -2,9 +2,10 @@
 """Holds the papers to the tree and to each other.
 
 Every citation of RULES.md names a section, a request or a module that is there, and the words that a definition or a statement quotes are the
-rules' own; the numbers of the header have their rows in RULES.md. Links lead somewhere. The README shows crates/example as it is; the map
-has a row for each group of crates.txt, and each theorem of its index is in its file. Prose, and of the README the code too, has lines of at most 100
-characters. And no contract cites a proof, so that what a signer reads is all in src and specs.
+rules' own; the numbers of the header have their rows in RULES.md, and fringewell_describe tells each by the words of the enum. Links lead
+somewhere. The README shows crates/example as it is; the map has a row for each group of crates.txt, and each theorem of its index is in its
+file. Prose, and of the README the code too, has lines of at most 100 characters. And no contract cites a proof, so that what a signer reads
+is all in src and specs.
 
 usage: tools/try/papers.py
 """
@@ -102,10 +103,21 @@ def wrong_quotes():
             yield f"{path} quotes {quote!r}, which RULES.md does not say"
 
 
+def header_numbers():
+    """The numbers of the header's enum: name, number, and the words behind it."""
+    return re.findall(r"FRINGEWELL_(\w+) = (\d+)\b,?(?: +/\* (.*) \*/)?", text("include/fringewell.h"))
+
+
 def wrong_numbers():
-    header = set(re.findall(r"FRINGEWELL_(\w+) = (\d+)\b", text("include/fringewell.h")))
+    header = {(name, number) for name, number, _ in header_numbers()}
     rows = {(name, number) for number, name in re.findall(r"^\| (\d+) \| `(\w+)` \|", text("docs/RULES.md"), re.M)}
     return [f"{name} = {number}: not in the header and in RULES.md both" for name, number in header ^ rows ^ {("OK", "0")}]
+
+
+def wrong_words():
+    listed = {(name, words) for name, _, words in header_numbers()}
+    told = {*re.findall(r'case FRINGEWELL_(?!TAG_)(\w+):\n *return "(.*)";', text("include/fringewell.h"))}
+    return [f"{name}: not in the header's enum and in fringewell_describe both: {words!r}" for name, words in listed ^ told]
 
 
 def anchor(heading):
@@ -165,7 +177,8 @@ def wrong_contracts():
 
 def main():
     assert not any(map(is_rule, ('"No section"', "request 99", "modules 1 and 99"))) and citations()
-    asked = [wrong_citations, wrong_quotes, wrong_numbers, wrong_links, wrong_lines, wrong_readme, wrong_architecture, wrong_contracts]
+    asked = [wrong_citations, wrong_quotes, wrong_numbers, wrong_words, wrong_links, wrong_lines, wrong_readme]
+    asked += [wrong_architecture, wrong_contracts]
     wrong = [what for ask in asked for what in ask()]
     if wrong:
         sys.exit("\n".join(wrong))

@@ -37,12 +37,12 @@ module _ (limit : Limit) (s : List ℕ) (offset : ℕ) where
       let y = step-yields limit s (cursor offset false) e q in
       record {
         yields = λ n d. record { place = y .placed; key = omega (arith, y .placed, y .key-at); value = y .value-at; next = refl };
-        ends = λ n d. absurd (omega (arith, d));
+        ends = λ n d. absurd (true≢false (sym d));
         refused = λ i. absurd (omega (arith, i));
       }
   says (gives end) z q =
       record {
-        yields = λ n d. absurd (omega (arith, d));
+        yields = λ n d. absurd (true≢false d);
         ends = λ n d. ended-at limit s offset q;
         refused = λ i. absurd
             (omega (arith, i));

@@ -13,8 +13,10 @@ use Rattle.c_answers.proofs.of_joined.Reads as of-joined-reads
 use Rattle.c_answers.proofs.of_joined.Kinds as of-joined-kinds
 use Rattle.c_answers.proofs.of_step.Reads as of-step-reads
 use Rattle.c_answers.proofs.of_step.Kinds as of-step-kinds
-use Rattle.c_answers.proofs.of_reading.Reads as of-reading-reads
-use Rattle.c_answers.proofs.of_reading.Kinds as of-reading-kinds
+use Rattle.c_answers.proofs.of_element.Reads as of-element-reads
+use Rattle.c_answers.proofs.of_element.Kinds as of-element-kinds
+use Rattle.c_answers.proofs.no_element.Reads as no-element-reads
+use Rattle.c_answers.proofs.no_element.Kinds as no-element-kinds
 use Rattle.c_answers.proofs.of_written.Reads as of-written-reads
 use Rattle.c_answers.proofs.of_written.Kinds as of-written-kinds
 
@@ -33,8 +35,11 @@ of-joined-determined κs a r₁ r₂ s₁ s₂ p q = p ∙ sym q
 pub of-step-determined : (κs : Lfts 0) (a : Dens κs of-step-kinds.ps) → Determined (of-step-reads.Post κs a)
 of-step-determined κs a r₁ r₂ s₁ s₂ p q = p ∙ sym q
 
-pub of-reading-determined : (κs : Lfts 0) (a : Dens κs of-reading-kinds.ps) → Determined (of-reading-reads.Post κs a)
-of-reading-determined κs a r₁ r₂ s₁ s₂ p q = p ∙ sym q
+pub of-element-determined : (κs : Lfts 0) (a : Dens κs of-element-kinds.ps) → Determined (of-element-reads.Post κs a)
+of-element-determined κs a r₁ r₂ s₁ s₂ p q = p ∙ sym q
+
+pub no-element-determined : (κs : Lfts 0) (a : Dens κs no-element-kinds.ps) → Determined (no-element-reads.Post κs a)
+no-element-determined κs a r₁ r₂ s₁ s₂ p q = p ∙ sym q
 
 pub of-written-determined : (κs : Lfts 1) (a : Dens κs of-written-kinds.ps) → Determined (of-written-reads.Post κs a)
 of-written-determined κs a r₁ r₂ s₁ s₂ p q = p ∙ sym q

@@ -1,5 +1,4 @@
 pub mod Wide
-pub mod Read
 pub mod Determined
 pub mod Tells
 pub mod Behind

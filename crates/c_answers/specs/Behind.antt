@@ -3,6 +3,7 @@
 use Prim.Native.Nat.{ℕ, _+_, _<_}
 use mathlib.Core.Path.{_≡_}
 use mathlib.Core.List.{List}
+use mathlib.Core.Bool.{true, false}
 use Rattle.bson.specs.Step.{terminator}
 use Rattle.c_answers.specs.declared.StepNumbers.{StepNumbers}
 
@@ -10,11 +11,11 @@ use Rattle.c_answers.specs.declared.StepNumbers.{StepNumbers}
 pub record Behind (offset : ℕ) (v : StepNumbers) : Type 0 where
   pub place : v .place ≡ offset
   pub key : v .«key_offset» ≡ v .place + 1
-  pub value : v .offset ≡ v .«key_offset» + v .«key_size» + 1
-  pub next : v .next ≡ v .offset + v .size
+  pub value : v .«framed_offset» ≡ v .«key_offset» + v .«key_size» + 1
+  pub next : v .next ≡ v .«framed_offset» + v .«framed_size»
 
 -- and of each step with an open cursor
 pub record StepSays (s : List ℕ) (offset : ℕ) (v : StepNumbers) : Type 0 where
-  pub yields : v .number ≡ 0 → v .ended ≡ 0 → Behind offset v
-  pub ends : v .number ≡ 0 → v .ended ≡ 1 → offset ≡ terminator s
+  pub yields : v .number ≡ 0 → v .ended ≡ false → Behind offset v
+  pub ends : v .number ≡ 0 → v .ended ≡ true → offset ≡ terminator s
   pub refused : 3 < v .number → v .place ≡ offset

@@ -3,17 +3,21 @@ ghost use Prim.Native.Nat.{_+_, _*_};
 ghost use mathlib.Core.Path.{_≡_};
 ghost use Rattle.document.specs.Said as document;
 ghost use Rattle.iter.specs.Said as iter;
+ghost use Rattle.iter.specs.Said.{saidElement};
 ghost use Rattle.join.specs.Said as join;
+ghost use Rattle.part.specs.Said.{saidPart};
 ghost use Rattle.reading.specs.Said as reading;
 ghost use Rattle.value.specs.Said.{saidValue};
 ghost use Rattle.whole.specs.Said as whole;
-ghost use Rattle.c_answers.specs.Numbers.{truth, verdict, emptiness, found, joined, noElement, stepped, tagOf, signedBits, bitsOf};
-ghost use Rattle.c_answers.specs.Numbers.{valueRead, writtenBy};
+ghost use Rattle.c_answers.specs.Numbers.{truth, verdict, emptiness, joined, signedBits, bitsOf, valued, unvalued, found, stepped};
+ghost use Rattle.c_answers.specs.Numbers.{noStep, readOf, yielded, noElement, writtenBy};
 use document::Empty;
 use document::Found;
 use iter::Cursor;
+use iter::Element;
 use iter::Step;
 use join::Joined;
+use part::Part;
 use reading::Reading;
 use value::Value;
 use whole::Verdict;
@@ -21,75 +25,77 @@ use writer_state::Words;
 
 #[repr(C)]
 pub struct VerdictNumbers {
-    pub number: u64,
-    pub place: u64,
-    pub count: u64,
+    pub number: u32,
+    pub place: usize,
+    pub count: usize,
 }
 
-// `offset` and `size`: the value's framed bytes.
+// A value: its element's tag, place and framed bytes; what it has as a number; its parts.
 #[repr(C)]
-pub struct FoundNumbers {
-    pub number: u64,
-    pub place: u64,
-    pub tag: u64,
-    pub offset: u64,
-    pub size: u64,
+pub struct ValueNumbers {
+    pub number: u32,
+    pub tag: u8,
+    pub place: usize,
+    pub framed_offset: usize,
+    pub framed_size: usize,
+    pub bits: u64,
+    pub offset: usize,
+    pub size: usize,
+    pub offset2: usize,
+    pub size2: usize,
+}
+
+// `ended` and `next`: the cursor behind the step.
+#[repr(C)]
+pub struct StepNumbers {
+    pub number: u32,
+    pub tag: u8,
+    pub ended: bool,
+    pub place: usize,
+    pub next: usize,
+    pub key_offset: usize,
+    pub key_size: usize,
+    pub framed_offset: usize,
+    pub framed_size: usize,
+}
+
+// An element with its value; `ended` and `next`: the cursor behind the step.
+#[repr(C)]
+pub struct ElementNumbers {
+    pub value: ValueNumbers,
+    pub key_offset: usize,
+    pub key_size: usize,
+    pub next: usize,
+    pub ended: bool,
 }
 
 #[repr(C)]
 pub struct JoinedNumbers {
-    pub number: u64,
-    pub place: u64,
-    pub which: u64,
-    pub length: u64,
-}
-
-// `ended` and `next`: the cursor behind the step; `offset` and `size`: the value's framed bytes.
-#[repr(C)]
-pub struct StepNumbers {
-    pub number: u64,
-    pub place: u64,
-    pub ended: u64,
-    pub next: u64,
-    pub tag: u64,
-    pub key_offset: u64,
-    pub key_size: u64,
-    pub offset: u64,
-    pub size: u64,
-}
-
-// `bits`: what the value has as a number; then its parts.
-#[repr(C)]
-pub struct ValueNumbers {
-    pub number: u64,
-    pub place: u64,
-    pub tag: u64,
-    pub bits: u64,
-    pub offset: u64,
-    pub size: u64,
-    pub offset2: u64,
-    pub size2: u64,
+    pub number: u32,
+    pub which: u32,
+    pub place: usize,
+    pub length: usize,
 }
 
 // `used`: the bytes used afterwards.
 #[repr(C)]
 pub struct WrittenNumbers {
-    pub number: u64,
-    pub used: u64,
+    pub number: u32,
+    pub used: usize,
 }
 
 pub fn of_verdict(v: Verdict) -> VerdictNumbers
     ensures { λ r. ⌜ r ≡ verdict (whole.said v) ⌝ }
 {
     match v {
-        Verdict::Accepted(n) => VerdictNumbers {
+        Verdict::Accepted(count) => VerdictNumbers {
             number: 0,
             place: 0,
-            count: n as u64,
+            count,
         },
         Verdict::Refused { number, place } => VerdictNumbers {
-            number: number as u64,
-            place: place as u64,
+            number: number as u32,
+            place,
             count: 0,
         },
     }
@@ -103,37 +109,13 @@ pub fn of_empty(e: Empty) -> VerdictNumbers
         Empty::Is(empty) => VerdictNumbers {
             number: 0,
             place: 0,
-            count: empty as u64,
+            count: empty as usize,
         },
         Empty::Refused { number, place } => VerdictNumbers {
-            number: number as u64,
-            place: place as u64,
+            number: number as u32,
+            place,
             count: 0,
         },
-    }
-}
-
-pub fn of_found(f: Found) -> FoundNumbers
-    ensures { λ r. ⌜ r ≡ found (document.said f) ⌝ }
-{
-    match f {
-        Found::Refused { number, place } => FoundNumbers {
-            number: number as u64,
-            place: place as u64,
-            tag: 0,
-            offset: 0,
-            size: 0,
-        },
-        Found::Is { element, value: _ } => {
-            let framed = element.value;
-            FoundNumbers {
-                number: 0,
-                place: element.place as u64,
-                tag: element.tag as u64,
-                offset: framed.offset as u64,
-                size: framed.size as u64,
-            }
-        }
     }
 }
 
@@ -143,70 +125,22 @@ pub fn of_joined(j: Joined) -> JoinedNumbers
     match j {
         Joined::Wrote(length) => JoinedNumbers {
             number: 0,
-            place: 0,
             which: 0,
-            length: length as u64,
+            place: 0,
+            length,
         },
         Joined::Refused {
             number,
             place,
             which,
         } => JoinedNumbers {
-            number: number as u64,
-            place: place as u64,
-            which: which as u64,
+            number: number as u32,
+            which: which as u32,
+            place,
             length: 0,
         },
     }
 }
-
-pub fn of_step(s: Step) -> StepNumbers
-    ensures { λ r. ⌜ r ≡ stepped (iter.said s) (iter.cursorBehind s) ⌝ }
-{
-    match s {
-        Step::Yield { element, next } => {
-            let key = element.key;
-            let framed = element.value;
-            StepNumbers {
-                number: 0,
-                place: element.place as u64,
-                ended: next.ended as u64,
-                next: next.offset as u64,
-                tag: element.tag as u64,
-                key_offset: key.offset as u64,
-                key_size: key.size as u64,
-                offset: framed.offset as u64,
-                size: framed.size as u64,
-            }
-        }
-        Step::End { next } => no_element(0, 0, next),
-        Step::Refused {
-            number,
-            place,
-            next,
-        } => no_element(number, place, next),
-    }
-}
-
-// A step that yields no element: its end or its refusal, and the cursor behind it.
-fn no_element(number: u8, place: usize, next: Cursor) -> StepNumbers
-    ensures { λ r. ⌜ r ≡ noElement number place (iter.saidCursor next) ⌝ }
-{
-    StepNumbers {
-        number: number as u64,
-        place: place as u64,
-        ended: next.ended as u64,
-        next: next.offset as u64,
-        tag: 0,
-        key_offset: 0,
-        key_size: 0,
-        offset: 0,
-        size: 0,
-    }
-}
-
-// A value's tag, and what it has as a number.
-struct Tagged(u8, u64);
 
 // Seconds in the upper half, the increment in the lower.
 fn of_halves(increment: u32, seconds: u32) -> u64
@@ -227,73 +161,152 @@ fn of_int32(n: i32) -> u64
     encode::bits64(n as i64)
 }
 
-fn tag_and_bits(value: Value) -> Tagged
-    ensures { λ r. ⌜ (r .0 ≡ tagOf (saidValue value)) × (r .1 ≡ bitsOf (saidValue value)) ⌝ }
+// What a value has as a number.
+fn bits_of(value: Value) -> u64
+    ensures { λ r. ⌜ r ≡ bitsOf (saidValue value) ⌝ }
 {
     match value {
-        Value::Double(bits) => Tagged(tags::DOUBLE, bits),
-        Value::String(_) => Tagged(tags::STRING, 0),
-        Value::Document(_) => Tagged(tags::DOCUMENT, 0),
-        Value::Array(_) => Tagged(tags::ARRAY, 0),
-        Value::Binary { subtype, data: _ } => Tagged(tags::BINARY, subtype as u64),
-        Value::Undefined => Tagged(tags::UNDEFINED, 0),
-        Value::ObjectId(_) => Tagged(tags::OBJECT_ID, 0),
-        Value::Boolean(b) => Tagged(tags::BOOLEAN, of_bool(b)),
-        Value::DateTime(n) => Tagged(tags::DATE_TIME, encode::bits64(n)),
-        Value::Null => Tagged(tags::NULL, 0),
-        Value::RegularExpression {
-            pattern: _,
-            options: _,
-        } => Tagged(tags::REGULAR_EXPRESSION, 0),
-        Value::DbPointer {
-            namespace: _,
-            id: _,
-        } => Tagged(tags::DB_POINTER, 0),
-        Value::JavaScriptCode(_) => Tagged(tags::CODE, 0),
-        Value::Symbol(_) => Tagged(tags::SYMBOL, 0),
-        Value::JavaScriptCodeWithScope { code: _, scope: _ } => Tagged(tags::CODE_WITH_SCOPE, 0),
-        Value::Int32(n) => Tagged(tags::INT32, of_int32(n)),
-        Value::Timestamp { increment, seconds } => Tagged(
-            tags::TIMESTAMP,
-            of_halves(increment, seconds),
-        ),
-        Value::Int64(n) => Tagged(tags::INT64, encode::bits64(n)),
-        Value::Decimal128(_) => Tagged(tags::DECIMAL128, 0),
-        Value::MinKey => Tagged(tags::MIN_KEY, 0),
-        Value::MaxKey => Tagged(tags::MAX_KEY, 0),
+        Value::Double(bits) => bits,
+        Value::Binary { subtype, data: _ } => subtype as u64,
+        Value::Boolean(b) => of_bool(b),
+        Value::DateTime(n) => encode::bits64(n),
+        Value::Int32(n) => of_int32(n),
+        Value::Timestamp { increment, seconds } => of_halves(increment, seconds),
+        Value::Int64(n) => encode::bits64(n),
+        _ => 0,
     }
 }
 
-pub fn of_reading(r: Reading) -> ValueNumbers
-    ensures { λ n. ⌜ n ≡ valueRead (reading.said r) ⌝ }
+// The value of an element, as it was read.
+fn of_value(element: Element, value: Value) -> ValueNumbers
+    ensures { λ r. ⌜ r ≡ valued (saidElement element) (saidValue value) ⌝ }
 {
-    match r {
-        Reading::Refused { number, place } => ValueNumbers {
-            number: number as u64,
-            place: place as u64,
-            tag: 0,
-            bits: 0,
-            offset: 0,
-            size: 0,
-            offset2: 0,
-            size2: 0,
-        },
-        Reading::Is(value) => {
-            let kind = tag_and_bits(value);
-            let parts = reading::parts_of(value);
-            let first = parts.0;
-            let second = parts.1;
-            ValueNumbers {
+    let framed = element.value;
+    let bits = bits_of(value);
+    let parts = reading::parts_of(value);
+    let first = parts.0;
+    let second = parts.1;
+    ValueNumbers {
+        number: 0,
+        tag: element.tag,
+        place: element.place,
+        framed_offset: framed.offset,
+        framed_size: framed.size,
+        bits,
+        offset: first.offset,
+        size: first.size,
+        offset2: second.offset,
+        size2: second.size,
+    }
+}
+
+// A refusal, and what is known all the same: a tag and framed bytes.
+fn unread(number: u8, place: usize, tag: u8, framed: Part) -> ValueNumbers
+    ensures { λ r. ⌜ r ≡ unvalued number place tag (saidPart framed) ⌝ }
+{
+    ValueNumbers {
+        number: number as u32,
+        tag,
+        place,
+        framed_offset: framed.offset,
+        framed_size: framed.size,
+        bits: 0,
+        offset: 0,
+        size: 0,
+        offset2: 0,
+        size2: 0,
+    }
+}
+
+pub fn of_found(f: Found) -> ValueNumbers
+    ensures { λ r. ⌜ r ≡ found (document.said f) ⌝ }
+{
+    match f {
+        Found::Refused { number, place } => unread(number, place, 0, Part { offset: 0, size: 0 }),
+        Found::Is { element, value } => of_value(element, value),
+    }
+}
+
+pub fn of_step(s: Step) -> StepNumbers
+    ensures { λ r. ⌜ r ≡ stepped (iter.said s) (iter.cursorBehind s) ⌝ }
+{
+    match s {
+        Step::Yield { element, next } => {
+            let key = element.key;
+            let framed = element.value;
+            StepNumbers {
                 number: 0,
-                place: 0,
-                tag: kind.0 as u64,
-                bits: kind.1,
-                offset: first.offset as u64,
-                size: first.size as u64,
-                offset2: second.offset as u64,
-                size2: second.size as u64,
+                tag: element.tag,
+                ended: next.ended,
+                place: element.place,
+                next: next.offset,
+                key_offset: key.offset,
+                key_size: key.size,
+                framed_offset: framed.offset,
+                framed_size: framed.size,
             }
         }
+        Step::End { next } => no_step(0, 0, next),
+        Step::Refused {
+            number,
+            place,
+            next,
+        } => no_step(number, place, next),
+    }
+}
+
+// A step that yields no element: its end or its refusal, and the cursor behind it.
+fn no_step(number: u8, place: usize, next: Cursor) -> StepNumbers
+    ensures { λ r. ⌜ r ≡ noStep number place (iter.saidCursor next) ⌝ }
+{
+    StepNumbers {
+        number: number as u32,
+        tag: 0,
+        ended: next.ended,
+        place,
+        next: next.offset,
+        key_offset: 0,
+        key_size: 0,
+        framed_offset: 0,
+        framed_size: 0,
+    }
+}
+
+// The value of an element, or the refusal of its reading.
+fn of_reading(element: Element, read: Reading) -> ValueNumbers
+    ensures { λ r. ⌜ r ≡ readOf (saidElement element) (reading.said read) ⌝ }
+{
+    match read {
+        Reading::Refused { number, place } => unread(number, place, element.tag, element.value),
+        Reading::Is(value) => of_value(element, value),
+    }
+}
+
+// An element that a step yields, with its value or why that could not be read, and the cursor behind the step.
+pub fn of_element(element: Element, read: Reading, next: Cursor) -> ElementNumbers
+    ensures { λ r. ⌜ r ≡ yielded (saidElement element) (reading.said read) (iter.saidCursor next) ⌝ }
+{
+    let key = element.key;
+    ElementNumbers {
+        value: of_reading(element, read),
+        key_offset: key.offset,
+        key_size: key.size,
+        next: next.offset,
+        ended: next.ended,
+    }
+}
+
+// A step that yields no element, likewise.
+pub fn no_element(number: u8, place: usize, next: Cursor) -> ElementNumbers
+    ensures { λ r. ⌜ r ≡ noElement number place (iter.saidCursor next) ⌝ }
+{
+    let nowhere = Part { offset: 0, size: 0 };
+    ElementNumbers {
+        value: unread(number, place, 0, nowhere),
+        key_offset: 0,
+        key_size: 0,
+        next: next.offset,
+        ended: next.ended,
     }
 }
 
@@ -304,11 +317,11 @@ pub fn of_written(number: u8, words: &Words) -> WrittenNumbers
     if number == 0 {
         return WrittenNumbers {
             number: 0,
-            used: writer_state::used(words) as u64,
+            used: writer_state::used(words),
         };
     }
     WrittenNumbers {
-        number: number as u64,
+        number: number as u32,
         used: 0,
     }
 }

@@ -29,60 +29,64 @@ use Rattle.fringewell.proofs.fringewell_step.Reads as step-reads
 use Rattle.fringewell.proofs.fringewell_step.Kinds as step-kinds
 use Rattle.fringewell.proofs.fringewell_step_under.Reads as step-under-reads
 use Rattle.fringewell.proofs.fringewell_step_under.Kinds as step-under-kinds
+use Rattle.fringewell.proofs.fringewell_next.Reads as next-reads
+use Rattle.fringewell.proofs.fringewell_next.Kinds as next-kinds
+use Rattle.fringewell.proofs.fringewell_next_under.Reads as next-under-reads
+use Rattle.fringewell.proofs.fringewell_next_under.Kinds as next-under-kinds
 use Rattle.fringewell.proofs.fringewell_read.Reads as read-reads
 use Rattle.fringewell.proofs.fringewell_read.Kinds as read-kinds
 use Rattle.fringewell.proofs.fringewell_read_under.Reads as read-under-reads
 use Rattle.fringewell.proofs.fringewell_read_under.Kinds as read-under-kinds
-use Rattle.fringewell.proofs.fringewell_value_of.Reads as value-of-reads
-use Rattle.fringewell.proofs.fringewell_value_of.Kinds as value-of-kinds
 use Rattle.fringewell.proofs.fringewell_join.Reads as join-reads
 use Rattle.fringewell.proofs.fringewell_join.Kinds as join-kinds
-use Rattle.fringewell.proofs.fringewell_writer_new.Reads as writer-new-reads
-use Rattle.fringewell.proofs.fringewell_writer_new.Kinds as writer-new-kinds
-use Rattle.fringewell.proofs.fringewell_writer_open.Reads as writer-open-reads
-use Rattle.fringewell.proofs.fringewell_writer_open.Kinds as writer-open-kinds
-use Rattle.fringewell.proofs.fringewell_writer_open_document.Reads as writer-open-document-reads
-use Rattle.fringewell.proofs.fringewell_writer_open_document.Kinds as writer-open-document-kinds
-use Rattle.fringewell.proofs.fringewell_writer_open_array.Reads as writer-open-array-reads
-use Rattle.fringewell.proofs.fringewell_writer_open_array.Kinds as writer-open-array-kinds
-use Rattle.fringewell.proofs.fringewell_writer_close.Reads as writer-close-reads
-use Rattle.fringewell.proofs.fringewell_writer_close.Kinds as writer-close-kinds
-use Rattle.fringewell.proofs.fringewell_append_double.Reads as append-double-reads
-use Rattle.fringewell.proofs.fringewell_append_double.Kinds as append-double-kinds
-use Rattle.fringewell.proofs.fringewell_append_bool.Reads as append-bool-reads
-use Rattle.fringewell.proofs.fringewell_append_bool.Kinds as append-bool-kinds
-use Rattle.fringewell.proofs.fringewell_append_int32.Reads as append-int32-reads
-use Rattle.fringewell.proofs.fringewell_append_int32.Kinds as append-int32-kinds
-use Rattle.fringewell.proofs.fringewell_append_int64.Reads as append-int64-reads
-use Rattle.fringewell.proofs.fringewell_append_int64.Kinds as append-int64-kinds
-use Rattle.fringewell.proofs.fringewell_append_datetime.Reads as append-datetime-reads
-use Rattle.fringewell.proofs.fringewell_append_datetime.Kinds as append-datetime-kinds
-use Rattle.fringewell.proofs.fringewell_append_timestamp.Reads as append-timestamp-reads
-use Rattle.fringewell.proofs.fringewell_append_timestamp.Kinds as append-timestamp-kinds
-use Rattle.fringewell.proofs.fringewell_append_null.Reads as append-null-reads
-use Rattle.fringewell.proofs.fringewell_append_null.Kinds as append-null-kinds
-use Rattle.fringewell.proofs.fringewell_append_undefined.Reads as append-undefined-reads
-use Rattle.fringewell.proofs.fringewell_append_undefined.Kinds as append-undefined-kinds
-use Rattle.fringewell.proofs.fringewell_append_min_key.Reads as append-min-key-reads
-use Rattle.fringewell.proofs.fringewell_append_min_key.Kinds as append-min-key-kinds
-use Rattle.fringewell.proofs.fringewell_append_max_key.Reads as append-max-key-reads
-use Rattle.fringewell.proofs.fringewell_append_max_key.Kinds as append-max-key-kinds
-use Rattle.fringewell.proofs.fringewell_append_string.Reads as append-string-reads
-use Rattle.fringewell.proofs.fringewell_append_string.Kinds as append-string-kinds
-use Rattle.fringewell.proofs.fringewell_append_code.Reads as append-code-reads
-use Rattle.fringewell.proofs.fringewell_append_code.Kinds as append-code-kinds
-use Rattle.fringewell.proofs.fringewell_append_symbol.Reads as append-symbol-reads
-use Rattle.fringewell.proofs.fringewell_append_symbol.Kinds as append-symbol-kinds
-use Rattle.fringewell.proofs.fringewell_append_binary.Reads as append-binary-reads
-use Rattle.fringewell.proofs.fringewell_append_binary.Kinds as append-binary-kinds
-use Rattle.fringewell.proofs.fringewell_append_regex.Reads as append-regex-reads
-use Rattle.fringewell.proofs.fringewell_append_regex.Kinds as append-regex-kinds
-use Rattle.fringewell.proofs.fringewell_append_dbpointer.Reads as append-dbpointer-reads
-use Rattle.fringewell.proofs.fringewell_append_dbpointer.Kinds as append-dbpointer-kinds
-use Rattle.fringewell.proofs.fringewell_append_object_id.Reads as append-object-id-reads
-use Rattle.fringewell.proofs.fringewell_append_object_id.Kinds as append-object-id-kinds
-use Rattle.fringewell.proofs.fringewell_append_decimal128.Reads as append-decimal128-reads
-use Rattle.fringewell.proofs.fringewell_append_decimal128.Kinds as append-decimal128-kinds
+use Rattle.fringewell.proofs.fringewell_version.Reads as version-reads
+use Rattle.fringewell.proofs.fringewell_version.Kinds as version-kinds
+use Rattle.fringewell.proofs.fringewell_state_new.Reads as state-new-reads
+use Rattle.fringewell.proofs.fringewell_state_new.Kinds as state-new-kinds
+use Rattle.fringewell.proofs.fringewell_state_open.Reads as state-open-reads
+use Rattle.fringewell.proofs.fringewell_state_open.Kinds as state-open-kinds
+use Rattle.fringewell.proofs.fringewell_state_open_document.Reads as state-open-document-reads
+use Rattle.fringewell.proofs.fringewell_state_open_document.Kinds as state-open-document-kinds
+use Rattle.fringewell.proofs.fringewell_state_open_array.Reads as state-open-array-reads
+use Rattle.fringewell.proofs.fringewell_state_open_array.Kinds as state-open-array-kinds
+use Rattle.fringewell.proofs.fringewell_state_close.Reads as state-close-reads
+use Rattle.fringewell.proofs.fringewell_state_close.Kinds as state-close-kinds
+use Rattle.fringewell.proofs.fringewell_state_append_double.Reads as state-append-double-reads
+use Rattle.fringewell.proofs.fringewell_state_append_double.Kinds as state-append-double-kinds
+use Rattle.fringewell.proofs.fringewell_state_append_bool.Reads as state-append-bool-reads
+use Rattle.fringewell.proofs.fringewell_state_append_bool.Kinds as state-append-bool-kinds
+use Rattle.fringewell.proofs.fringewell_state_append_int32.Reads as state-append-int32-reads
+use Rattle.fringewell.proofs.fringewell_state_append_int32.Kinds as state-append-int32-kinds
+use Rattle.fringewell.proofs.fringewell_state_append_int64.Reads as state-append-int64-reads
+use Rattle.fringewell.proofs.fringewell_state_append_int64.Kinds as state-append-int64-kinds
+use Rattle.fringewell.proofs.fringewell_state_append_datetime.Reads as state-append-datetime-reads
+use Rattle.fringewell.proofs.fringewell_state_append_datetime.Kinds as state-append-datetime-kinds
+use Rattle.fringewell.proofs.fringewell_state_append_timestamp.Reads as state-append-timestamp-reads
+use Rattle.fringewell.proofs.fringewell_state_append_timestamp.Kinds as state-append-timestamp-kinds
+use Rattle.fringewell.proofs.fringewell_state_append_null.Reads as state-append-null-reads
+use Rattle.fringewell.proofs.fringewell_state_append_null.Kinds as state-append-null-kinds
+use Rattle.fringewell.proofs.fringewell_state_append_undefined.Reads as state-append-undefined-reads
+use Rattle.fringewell.proofs.fringewell_state_append_undefined.Kinds as state-append-undefined-kinds
+use Rattle.fringewell.proofs.fringewell_state_append_min_key.Reads as state-append-min-key-reads
+use Rattle.fringewell.proofs.fringewell_state_append_min_key.Kinds as state-append-min-key-kinds
+use Rattle.fringewell.proofs.fringewell_state_append_max_key.Reads as state-append-max-key-reads
+use Rattle.fringewell.proofs.fringewell_state_append_max_key.Kinds as state-append-max-key-kinds
+use Rattle.fringewell.proofs.fringewell_state_append_string.Reads as state-append-string-reads
+use Rattle.fringewell.proofs.fringewell_state_append_string.Kinds as state-append-string-kinds
+use Rattle.fringewell.proofs.fringewell_state_append_code.Reads as state-append-code-reads
+use Rattle.fringewell.proofs.fringewell_state_append_code.Kinds as state-append-code-kinds
+use Rattle.fringewell.proofs.fringewell_state_append_symbol.Reads as state-append-symbol-reads
+use Rattle.fringewell.proofs.fringewell_state_append_symbol.Kinds as state-append-symbol-kinds
+use Rattle.fringewell.proofs.fringewell_state_append_binary.Reads as state-append-binary-reads
+use Rattle.fringewell.proofs.fringewell_state_append_binary.Kinds as state-append-binary-kinds
+use Rattle.fringewell.proofs.fringewell_state_append_regex.Reads as state-append-regex-reads
+use Rattle.fringewell.proofs.fringewell_state_append_regex.Kinds as state-append-regex-kinds
+use Rattle.fringewell.proofs.fringewell_state_append_dbpointer.Reads as state-append-dbpointer-reads
+use Rattle.fringewell.proofs.fringewell_state_append_dbpointer.Kinds as state-append-dbpointer-kinds
+use Rattle.fringewell.proofs.fringewell_state_append_object_id.Reads as state-append-object-id-reads
+use Rattle.fringewell.proofs.fringewell_state_append_object_id.Kinds as state-append-object-id-kinds
+use Rattle.fringewell.proofs.fringewell_state_append_decimal128.Reads as state-append-decimal128-reads
+use Rattle.fringewell.proofs.fringewell_state_append_decimal128.Kinds as state-append-decimal128-kinds
 
 -- an answer beside what it leaves
 both : {A B : Type 0} {x : A × B} (a₁ a₂ : A) (b₁ b₂ : B) → (a₁, b₁) ≡ x → (a₂, b₂) ≡ x → (a₁ ≡ a₂) × (b₁ ≡ b₂)
@@ -129,113 +133,121 @@ fringewell-step-determined κs a r₁ r₂ s₁ s₂ p q = p ∙ sym q
 pub fringewell-step-under-determined : (κs : Lfts 1) (a : Dens κs step-under-kinds.ps) → Determined (step-under-reads.Post κs a)
 fringewell-step-under-determined κs a r₁ r₂ s₁ s₂ p q = p ∙ sym q
 
+pub fringewell-next-determined : (κs : Lfts 1) (a : Dens κs next-kinds.ps) → Determined (next-reads.Post κs a)
+fringewell-next-determined κs a r₁ r₂ s₁ s₂ p q = p ∙ sym q
+
+pub fringewell-next-under-determined : (κs : Lfts 1) (a : Dens κs next-under-kinds.ps) → Determined (next-under-reads.Post κs a)
+fringewell-next-under-determined κs a r₁ r₂ s₁ s₂ p q = p ∙ sym q
+
 pub fringewell-read-determined : (κs : Lfts 1) (a : Dens κs read-kinds.ps) → Determined (read-reads.Post κs a)
 fringewell-read-determined κs a r₁ r₂ s₁ s₂ p q = p ∙ sym q
 
 pub fringewell-read-under-determined : (κs : Lfts 1) (a : Dens κs read-under-kinds.ps) → Determined (read-under-reads.Post κs a)
 fringewell-read-under-determined κs a r₁ r₂ s₁ s₂ p q = p ∙ sym q
 
-pub fringewell-value-of-determined : (κs : Lfts 1) (a : Dens κs value-of-kinds.ps) → Determined (value-of-reads.Post κs a)
-fringewell-value-of-determined κs a r₁ r₂ s₁ s₂ p q = p ∙ sym q
-
 -- ---- joining
 
 pub fringewell-join-determined : (κs : Lfts 3) (a : Dens κs join-kinds.ps) → DeterminedBuf (λ s. now (s .1 .1 .0)) (join-reads.Post κs a)
 fringewell-join-determined κs a r₁ r₂ s₁ s₂ p q = both r₁ r₂ (now (s₁ .1 .1 .0)) (now (s₂ .1 .1 .0)) p q
 
+-- ---- the version
+
+pub fringewell-version-determined : (κs : Lfts 0) (a : Dens κs version-kinds.ps) → Determined (version-reads.Post κs a)
+fringewell-version-determined κs a r₁ r₂ s₁ s₂ p q = p ∙ sym q
+
 -- ---- documents and arrays
 
-pub fringewell-writer-new-determined : (κs : Lfts 0) (a : Dens κs writer-new-kinds.ps) → Determined (writer-new-reads.Post κs a)
-fringewell-writer-new-determined κs a r₁ r₂ s₁ s₂ p q = ap (λ (w : List ℕ). record { words = w }) (p ∙ sym q)
+pub fringewell-state-new-determined : (κs : Lfts 0) (a : Dens κs state-new-kinds.ps) → Determined (state-new-reads.Post κs a)
+fringewell-state-new-determined κs a r₁ r₂ s₁ s₂ p q = ap (λ (w : List ℕ). record { words = w }) (p ∙ sym q)
 
-pub fringewell-writer-open-determined : (κs : Lfts 2) (a : Dens κs writer-open-kinds.ps)
-    → DeterminedBuf (λ s. desk (now (s .0)) (now (s .1 .0))) (writer-open-reads.Post κs a)
-fringewell-writer-open-determined κs a r₁ r₂ s₁ s₂ p q = both r₁ r₂ (desk _ _) (desk _ _) p q
+pub fringewell-state-open-determined : (κs : Lfts 2) (a : Dens κs state-open-kinds.ps)
+    → DeterminedBuf (λ s. desk (now (s .0)) (now (s .1 .0))) (state-open-reads.Post κs a)
+fringewell-state-open-determined κs a r₁ r₂ s₁ s₂ p q = both r₁ r₂ (desk _ _) (desk _ _) p q
 
-pub fringewell-writer-open-document-determined : (κs : Lfts 3) (a : Dens κs writer-open-document-kinds.ps)
-    → DeterminedBuf (λ s. desk (now (s .0)) (now (s .1 .0))) (writer-open-document-reads.Post κs a)
-fringewell-writer-open-document-determined κs a r₁ r₂ s₁ s₂ p q = both r₁ r₂ (desk _ _) (desk _ _) p q
+pub fringewell-state-open-document-determined : (κs : Lfts 3) (a : Dens κs state-open-document-kinds.ps)
+    → DeterminedBuf (λ s. desk (now (s .0)) (now (s .1 .0))) (state-open-document-reads.Post κs a)
+fringewell-state-open-document-determined κs a r₁ r₂ s₁ s₂ p q = both r₁ r₂ (desk _ _) (desk _ _) p q
 
-pub fringewell-writer-open-array-determined : (κs : Lfts 3) (a : Dens κs writer-open-array-kinds.ps)
-    → DeterminedBuf (λ s. desk (now (s .0)) (now (s .1 .0))) (writer-open-array-reads.Post κs a)
-fringewell-writer-open-array-determined κs a r₁ r₂ s₁ s₂ p q = both r₁ r₂ (desk _ _) (desk _ _) p q
+pub fringewell-state-open-array-determined : (κs : Lfts 3) (a : Dens κs state-open-array-kinds.ps)
+    → DeterminedBuf (λ s. desk (now (s .0)) (now (s .1 .0))) (state-open-array-reads.Post κs a)
+fringewell-state-open-array-determined κs a r₁ r₂ s₁ s₂ p q = both r₁ r₂ (desk _ _) (desk _ _) p q
 
-pub fringewell-writer-close-determined : (κs : Lfts 2) (a : Dens κs writer-close-kinds.ps)
-    → DeterminedBuf (λ s. desk (now (s .0)) (now (s .1 .0))) (writer-close-reads.Post κs a)
-fringewell-writer-close-determined κs a r₁ r₂ s₁ s₂ p q = both r₁ r₂ (desk _ _) (desk _ _) p q
+pub fringewell-state-close-determined : (κs : Lfts 2) (a : Dens κs state-close-kinds.ps)
+    → DeterminedBuf (λ s. desk (now (s .0)) (now (s .1 .0))) (state-close-reads.Post κs a)
+fringewell-state-close-determined κs a r₁ r₂ s₁ s₂ p q = both r₁ r₂ (desk _ _) (desk _ _) p q
 
 -- ---- scalars
 
-pub fringewell-append-double-determined : (κs : Lfts 3) (a : Dens κs append-double-kinds.ps)
-    → DeterminedBuf (λ s. desk (now (s .0)) (now (s .1 .0))) (append-double-reads.Post κs a)
-fringewell-append-double-determined κs a r₁ r₂ s₁ s₂ p q = both r₁ r₂ (desk _ _) (desk _ _) p q
+pub fringewell-state-append-double-determined : (κs : Lfts 3) (a : Dens κs state-append-double-kinds.ps)
+    → DeterminedBuf (λ s. desk (now (s .0)) (now (s .1 .0))) (state-append-double-reads.Post κs a)
+fringewell-state-append-double-determined κs a r₁ r₂ s₁ s₂ p q = both r₁ r₂ (desk _ _) (desk _ _) p q
 
-pub fringewell-append-bool-determined : (κs : Lfts 3) (a : Dens κs append-bool-kinds.ps)
-    → DeterminedBuf (λ s. desk (now (s .0)) (now (s .1 .0))) (append-bool-reads.Post κs a)
-fringewell-append-bool-determined κs a r₁ r₂ s₁ s₂ p q = both r₁ r₂ (desk _ _) (desk _ _) p q
+pub fringewell-state-append-bool-determined : (κs : Lfts 3) (a : Dens κs state-append-bool-kinds.ps)
+    → DeterminedBuf (λ s. desk (now (s .0)) (now (s .1 .0))) (state-append-bool-reads.Post κs a)
+fringewell-state-append-bool-determined κs a r₁ r₂ s₁ s₂ p q = both r₁ r₂ (desk _ _) (desk _ _) p q
 
-pub fringewell-append-int32-determined : (κs : Lfts 3) (a : Dens κs append-int32-kinds.ps)
-    → DeterminedBuf (λ s. desk (now (s .0)) (now (s .1 .0))) (append-int32-reads.Post κs a)
-fringewell-append-int32-determined κs a r₁ r₂ s₁ s₂ p q = both r₁ r₂ (desk _ _) (desk _ _) p q
+pub fringewell-state-append-int32-determined : (κs : Lfts 3) (a : Dens κs state-append-int32-kinds.ps)
+    → DeterminedBuf (λ s. desk (now (s .0)) (now (s .1 .0))) (state-append-int32-reads.Post κs a)
+fringewell-state-append-int32-determined κs a r₁ r₂ s₁ s₂ p q = both r₁ r₂ (desk _ _) (desk _ _) p q
 
-pub fringewell-append-int64-determined : (κs : Lfts 3) (a : Dens κs append-int64-kinds.ps)
-    → DeterminedBuf (λ s. desk (now (s .0)) (now (s .1 .0))) (append-int64-reads.Post κs a)
-fringewell-append-int64-determined κs a r₁ r₂ s₁ s₂ p q = both r₁ r₂ (desk _ _) (desk _ _) p q
+pub fringewell-state-append-int64-determined : (κs : Lfts 3) (a : Dens κs state-append-int64-kinds.ps)
+    → DeterminedBuf (λ s. desk (now (s .0)) (now (s .1 .0))) (state-append-int64-reads.Post κs a)
+fringewell-state-append-int64-determined κs a r₁ r₂ s₁ s₂ p q = both r₁ r₂ (desk _ _) (desk _ _) p q
 
-pub fringewell-append-datetime-determined : (κs : Lfts 3) (a : Dens κs append-datetime-kinds.ps)
-    → DeterminedBuf (λ s. desk (now (s .0)) (now (s .1 .0))) (append-datetime-reads.Post κs a)
-fringewell-append-datetime-determined κs a r₁ r₂ s₁ s₂ p q = both r₁ r₂ (desk _ _) (desk _ _) p q
+pub fringewell-state-append-datetime-determined : (κs : Lfts 3) (a : Dens κs state-append-datetime-kinds.ps)
+    → DeterminedBuf (λ s. desk (now (s .0)) (now (s .1 .0))) (state-append-datetime-reads.Post κs a)
+fringewell-state-append-datetime-determined κs a r₁ r₂ s₁ s₂ p q = both r₁ r₂ (desk _ _) (desk _ _) p q
 
-pub fringewell-append-timestamp-determined : (κs : Lfts 3) (a : Dens κs append-timestamp-kinds.ps)
-    → DeterminedBuf (λ s. desk (now (s .0)) (now (s .1 .0))) (append-timestamp-reads.Post κs a)
-fringewell-append-timestamp-determined κs a r₁ r₂ s₁ s₂ p q = both r₁ r₂ (desk _ _) (desk _ _) p q
+pub fringewell-state-append-timestamp-determined : (κs : Lfts 3) (a : Dens κs state-append-timestamp-kinds.ps)
+    → DeterminedBuf (λ s. desk (now (s .0)) (now (s .1 .0))) (state-append-timestamp-reads.Post κs a)
+fringewell-state-append-timestamp-determined κs a r₁ r₂ s₁ s₂ p q = both r₁ r₂ (desk _ _) (desk _ _) p q
 
-pub fringewell-append-null-determined : (κs : Lfts 3) (a : Dens κs append-null-kinds.ps)
-    → DeterminedBuf (λ s. desk (now (s .0)) (now (s .1 .0))) (append-null-reads.Post κs a)
-fringewell-append-null-determined κs a r₁ r₂ s₁ s₂ p q = both r₁ r₂ (desk _ _) (desk _ _) p q
+pub fringewell-state-append-null-determined : (κs : Lfts 3) (a : Dens κs state-append-null-kinds.ps)
+    → DeterminedBuf (λ s. desk (now (s .0)) (now (s .1 .0))) (state-append-null-reads.Post κs a)
+fringewell-state-append-null-determined κs a r₁ r₂ s₁ s₂ p q = both r₁ r₂ (desk _ _) (desk _ _) p q
 
-pub fringewell-append-undefined-determined : (κs : Lfts 3) (a : Dens κs append-undefined-kinds.ps)
-    → DeterminedBuf (λ s. desk (now (s .0)) (now (s .1 .0))) (append-undefined-reads.Post κs a)
-fringewell-append-undefined-determined κs a r₁ r₂ s₁ s₂ p q = both r₁ r₂ (desk _ _) (desk _ _) p q
+pub fringewell-state-append-undefined-determined : (κs : Lfts 3) (a : Dens κs state-append-undefined-kinds.ps)
+    → DeterminedBuf (λ s. desk (now (s .0)) (now (s .1 .0))) (state-append-undefined-reads.Post κs a)
+fringewell-state-append-undefined-determined κs a r₁ r₂ s₁ s₂ p q = both r₁ r₂ (desk _ _) (desk _ _) p q
 
-pub fringewell-append-min-key-determined : (κs : Lfts 3) (a : Dens κs append-min-key-kinds.ps)
-    → DeterminedBuf (λ s. desk (now (s .0)) (now (s .1 .0))) (append-min-key-reads.Post κs a)
-fringewell-append-min-key-determined κs a r₁ r₂ s₁ s₂ p q = both r₁ r₂ (desk _ _) (desk _ _) p q
+pub fringewell-state-append-min-key-determined : (κs : Lfts 3) (a : Dens κs state-append-min-key-kinds.ps)
+    → DeterminedBuf (λ s. desk (now (s .0)) (now (s .1 .0))) (state-append-min-key-reads.Post κs a)
+fringewell-state-append-min-key-determined κs a r₁ r₂ s₁ s₂ p q = both r₁ r₂ (desk _ _) (desk _ _) p q
 
-pub fringewell-append-max-key-determined : (κs : Lfts 3) (a : Dens κs append-max-key-kinds.ps)
-    → DeterminedBuf (λ s. desk (now (s .0)) (now (s .1 .0))) (append-max-key-reads.Post κs a)
-fringewell-append-max-key-determined κs a r₁ r₂ s₁ s₂ p q = both r₁ r₂ (desk _ _) (desk _ _) p q
+pub fringewell-state-append-max-key-determined : (κs : Lfts 3) (a : Dens κs state-append-max-key-kinds.ps)
+    → DeterminedBuf (λ s. desk (now (s .0)) (now (s .1 .0))) (state-append-max-key-reads.Post κs a)
+fringewell-state-append-max-key-determined κs a r₁ r₂ s₁ s₂ p q = both r₁ r₂ (desk _ _) (desk _ _) p q
 
 -- ---- texts, data and ids
 
-pub fringewell-append-string-determined : (κs : Lfts 4) (a : Dens κs append-string-kinds.ps)
-    → DeterminedBuf (λ s. desk (now (s .0)) (now (s .1 .0))) (append-string-reads.Post κs a)
-fringewell-append-string-determined κs a r₁ r₂ s₁ s₂ p q = both r₁ r₂ (desk _ _) (desk _ _) p q
+pub fringewell-state-append-string-determined : (κs : Lfts 4) (a : Dens κs state-append-string-kinds.ps)
+    → DeterminedBuf (λ s. desk (now (s .0)) (now (s .1 .0))) (state-append-string-reads.Post κs a)
+fringewell-state-append-string-determined κs a r₁ r₂ s₁ s₂ p q = both r₁ r₂ (desk _ _) (desk _ _) p q
 
-pub fringewell-append-code-determined : (κs : Lfts 4) (a : Dens κs append-code-kinds.ps)
-    → DeterminedBuf (λ s. desk (now (s .0)) (now (s .1 .0))) (append-code-reads.Post κs a)
-fringewell-append-code-determined κs a r₁ r₂ s₁ s₂ p q = both r₁ r₂ (desk _ _) (desk _ _) p q
+pub fringewell-state-append-code-determined : (κs : Lfts 4) (a : Dens κs state-append-code-kinds.ps)
+    → DeterminedBuf (λ s. desk (now (s .0)) (now (s .1 .0))) (state-append-code-reads.Post κs a)
+fringewell-state-append-code-determined κs a r₁ r₂ s₁ s₂ p q = both r₁ r₂ (desk _ _) (desk _ _) p q
 
-pub fringewell-append-symbol-determined : (κs : Lfts 4) (a : Dens κs append-symbol-kinds.ps)
-    → DeterminedBuf (λ s. desk (now (s .0)) (now (s .1 .0))) (append-symbol-reads.Post κs a)
-fringewell-append-symbol-determined κs a r₁ r₂ s₁ s₂ p q = both r₁ r₂ (desk _ _) (desk _ _) p q
+pub fringewell-state-append-symbol-determined : (κs : Lfts 4) (a : Dens κs state-append-symbol-kinds.ps)
+    → DeterminedBuf (λ s. desk (now (s .0)) (now (s .1 .0))) (state-append-symbol-reads.Post κs a)
+fringewell-state-append-symbol-determined κs a r₁ r₂ s₁ s₂ p q = both r₁ r₂ (desk _ _) (desk _ _) p q
 
-pub fringewell-append-binary-determined : (κs : Lfts 4) (a : Dens κs append-binary-kinds.ps)
-    → DeterminedBuf (λ s. desk (now (s .0)) (now (s .1 .0))) (append-binary-reads.Post κs a)
-fringewell-append-binary-determined κs a r₁ r₂ s₁ s₂ p q = both r₁ r₂ (desk _ _) (desk _ _) p q
+pub fringewell-state-append-binary-determined : (κs : Lfts 4) (a : Dens κs state-append-binary-kinds.ps)
+    → DeterminedBuf (λ s. desk (now (s .0)) (now (s .1 .0))) (state-append-binary-reads.Post κs a)
+fringewell-state-append-binary-determined κs a r₁ r₂ s₁ s₂ p q = both r₁ r₂ (desk _ _) (desk _ _) p q
 
-pub fringewell-append-regex-determined : (κs : Lfts 5) (a : Dens κs append-regex-kinds.ps)
-    → DeterminedBuf (λ s. desk (now (s .0)) (now (s .1 .0))) (append-regex-reads.Post κs a)
-fringewell-append-regex-determined κs a r₁ r₂ s₁ s₂ p q = both r₁ r₂ (desk _ _) (desk _ _) p q
+pub fringewell-state-append-regex-determined : (κs : Lfts 5) (a : Dens κs state-append-regex-kinds.ps)
+    → DeterminedBuf (λ s. desk (now (s .0)) (now (s .1 .0))) (state-append-regex-reads.Post κs a)
+fringewell-state-append-regex-determined κs a r₁ r₂ s₁ s₂ p q = both r₁ r₂ (desk _ _) (desk _ _) p q
 
-pub fringewell-append-dbpointer-determined : (κs : Lfts 5) (a : Dens κs append-dbpointer-kinds.ps)
-    → DeterminedBuf (λ s. desk (now (s .0)) (now (s .1 .0))) (append-dbpointer-reads.Post κs a)
-fringewell-append-dbpointer-determined κs a r₁ r₂ s₁ s₂ p q = both r₁ r₂ (desk _ _) (desk _ _) p q
+pub fringewell-state-append-dbpointer-determined : (κs : Lfts 5) (a : Dens κs state-append-dbpointer-kinds.ps)
+    → DeterminedBuf (λ s. desk (now (s .0)) (now (s .1 .0))) (state-append-dbpointer-reads.Post κs a)
+fringewell-state-append-dbpointer-determined κs a r₁ r₂ s₁ s₂ p q = both r₁ r₂ (desk _ _) (desk _ _) p q
 
-pub fringewell-append-object-id-determined : (κs : Lfts 4) (a : Dens κs append-object-id-kinds.ps)
-    → DeterminedBuf (λ s. desk (now (s .0)) (now (s .1 .0))) (append-object-id-reads.Post κs a)
-fringewell-append-object-id-determined κs a r₁ r₂ s₁ s₂ p q = both r₁ r₂ (desk _ _) (desk _ _) p q
+pub fringewell-state-append-object-id-determined : (κs : Lfts 4) (a : Dens κs state-append-object-id-kinds.ps)
+    → DeterminedBuf (λ s. desk (now (s .0)) (now (s .1 .0))) (state-append-object-id-reads.Post κs a)
+fringewell-state-append-object-id-determined κs a r₁ r₂ s₁ s₂ p q = both r₁ r₂ (desk _ _) (desk _ _) p q
 
-pub fringewell-append-decimal128-determined : (κs : Lfts 4) (a : Dens κs append-decimal128-kinds.ps)
-    → DeterminedBuf (λ s. desk (now (s .0)) (now (s .1 .0))) (append-decimal128-reads.Post κs a)
-fringewell-append-decimal128-determined κs a r₁ r₂ s₁ s₂ p q = both r₁ r₂ (desk _ _) (desk _ _) p q
+pub fringewell-state-append-decimal128-determined : (κs : Lfts 4) (a : Dens κs state-append-decimal128-kinds.ps)
+    → DeterminedBuf (λ s. desk (now (s .0)) (now (s .1 .0))) (state-append-decimal128-reads.Post κs a)
+fringewell-state-append-decimal128-determined κs a r₁ r₂ s₁ s₂ p q = both r₁ r₂ (desk _ _) (desk _ _) p q

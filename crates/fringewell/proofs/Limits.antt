@@ -2,23 +2,23 @@
 use Prim.Native.Nat.{ℕ, _≤_, _<_}
 use mathlib.Core.Path.{_≡_, ap, _∙_}
 use mathlib.Core.List.{List}
-use mathlib.Core.Bool.{Bool}
+use mathlib.Core.Bool.{Bool, false}
 use native.Mathlib.Omega.{arith}
 use lib.Dec.{eqb}
 use lib.ListN.{length}
 use borrow.Author.Tests.{eqb-true}
-use Rattle.bson.specs.Answer.{Answer}
+use Rattle.bson.specs.Answer.{Answer, then}
 use Rattle.bson.specs.Cstring.{Limit, most}
-use Rattle.bson.specs.Step.{Cursor, Step, after}
-use Rattle.bson.specs.Value.{readAtUnder}
-use Rattle.bson.specs.Lookup.{getUnder, getWithUnder}
+use Rattle.bson.specs.Step.{Cursor, cursor, Step, yielded, after}
+use Rattle.bson.specs.Value.{elementAtUnder}
+use Rattle.bson.specs.Lookup.{found, getUnder, getWithUnder, getAtUnder}
 use Rattle.bson.specs.Check.{checkUnder}
 use Rattle.laws.proofs.Common.{split}
-use Rattle.laws.proofs.LimitLaws.{step-beyond, read-beyond, get-beyond, get-with-beyond, check-beyond}
+use Rattle.laws.proofs.LimitLaws.{step-beyond, get-beyond, get-with-beyond, check-beyond}
 use Rattle.cstr.specs.Said.{limitOf, capped}
 use Rattle.cstr.proofs.Limits.{capped-says}
-use Rattle.c_answers.specs.Numbers.{stepped}
-use Rattle.fringewell.specs.Left.{stepsUnder}
+use Rattle.c_answers.specs.Numbers.{stepped, stepRead}
+use Rattle.fringewell.specs.Left.{stepsUnder, readsUnder}
 
 -- of a slice that has fewer bytes than the largest number
 module _ (m n : ℕ) (is : m ≡ capped n) (s : List ℕ) (short : length s < 0xFFFF_FFFF_FFFF_FFFF) where
@@ -41,5 +41,12 @@ module _ (m n : ℕ) (is : m ≡ capped n) (s : List ℕ) (short : length s < 0x
   step-passed c =
       passed (λ (l : Limit). stepsUnder l s c) (λ k i j. ap (λ (x : Answer Step). stepped x (after c x)) (step-beyond k n s i j c))
 
-  pub read-passed : (place : ℕ) → readAtUnder (limitOf m) s place ≡ readAtUnder (most n) s place
-  read-passed place = passed (λ (l : Limit). readAtUnder l s place) (λ k i j. read-beyond k n s i j place)
+  pub next-passed : (c : Cursor) → readsUnder (limitOf m) s c ≡ readsUnder (most n) s c
+  next-passed c =
+      passed (λ (l : Limit). readsUnder l s c) (λ k i j. ap (λ (x : Answer Step). stepRead s x (after c x)) (step-beyond k n s i j c))
+
+  pub read-passed : (place : ℕ) → getAtUnder (limitOf m) s place ≡ getAtUnder (most n) s place
+  unfolding getAtUnder elementAtUnder
+  read-passed place =
+      passed (λ (l : Limit). getAtUnder l s place)
+      (λ k i j. ap (λ (x : Answer Step). then (then x (yielded place)) (found s)) (step-beyond k n s i j (cursor place false)))

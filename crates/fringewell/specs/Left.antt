@@ -6,7 +6,8 @@ use Rattle.bson.specs.Join.{join}
 use Rattle.bson.specs.Cstring.{Limit, unlimited}
 use Rattle.bson.specs.Step.{Cursor, stepUnder, after}
 use Rattle.bson.specs.Writer.{State, Desk, desk, Call, performed}
-use Rattle.c_answers.specs.Numbers.{joined, stepped, writtenBy}
+use Rattle.c_answers.specs.Numbers.{joined, stepped, stepRead, writtenBy}
+use Rattle.c_answers.specs.declared.ElementNumbers.{ElementNumbers}
 use Rattle.c_answers.specs.declared.JoinedNumbers.{JoinedNumbers}
 use Rattle.c_answers.specs.declared.StepNumbers.{StepNumbers}
 use Rattle.c_answers.specs.declared.WrittenNumbers.{WrittenNumbers}
@@ -17,6 +18,13 @@ stepsUnder limit s c = stepped (stepUnder limit s c) (after c (stepUnder limit s
 
 abbrev pub steps : List ℕ → Cursor → StepNumbers
 steps s c = stepsUnder unlimited s c
+
+-- a step, the reading of what it yields, and the cursor behind it
+abbrev pub readsUnder : Limit → List ℕ → Cursor → ElementNumbers
+readsUnder limit s c = stepRead s (stepUnder limit s c) (after c (stepUnder limit s c))
+
+abbrev pub reads : List ℕ → Cursor → ElementNumbers
+reads s c = readsUnder unlimited s c
 
 -- an answer, and the buffer that is left
 abbrev pub left : JoinedNumbers → List ℕ → JoinedNumbers × List ℕ

@@ -5,22 +5,21 @@ ghost use mathlib.Core.Bool.{true, false};
 ghost use Rattle.bson.specs.Check.{checkUnder, check};
 ghost use Rattle.bson.specs.Cstring.{most};
 ghost use Rattle.bson.specs.Grammar as grammar;
-ghost use Rattle.bson.specs.Lookup.{getUnder, getWithUnder, get, getWith, isEmpty};
+ghost use Rattle.bson.specs.Lookup.{getUnder, getWithUnder, getAtUnder, get, getWith, getAt, isEmpty};
 ghost use Rattle.bson.specs.Step.{cursor};
 ghost use Rattle.bson.specs.Value as value;
 ghost use Rattle.bson.specs.Writer as writer;
-ghost use Rattle.c_answers.specs.Numbers.{verdict, emptiness, found, valueRead};
-ghost use Rattle.fringewell.specs.Given.{given};
-ghost use Rattle.fringewell.specs.Left.{stepsUnder, steps, left, joins, leaves, performs};
-use c_answers::FoundNumbers;
+ghost use Rattle.c_answers.specs.Numbers.{verdict, emptiness, found, stepRead};
+ghost use Rattle.iter.specs.Said.{said, cursorBehind};
+ghost use Rattle.fringewell.specs.Left.{stepsUnder, steps, readsUnder, reads, left, joins, leaves, performs};
+use c_answers::ElementNumbers;
 use c_answers::JoinedNumbers;
 use c_answers::StepNumbers;
 use c_answers::ValueNumbers;
 use c_answers::VerdictNumbers;
 use c_answers::WrittenNumbers;
 use iter::Cursor;
-use iter::Element;
-use part::Part;
+use iter::Step;
 use writer_state::Words;
 
 // The plain check.
@@ -65,7 +64,7 @@ pub extern "C" fn fringewell_is_empty(document: &[u8]) -> VerdictNumbers
 
 // The first element of a key.
 #[no_mangle]
-pub extern "C" fn fringewell_lookup(document: &[u8], key: &[u8]) -> FoundNumbers
+pub extern "C" fn fringewell_lookup(document: &[u8], key: &[u8]) -> ValueNumbers
     ensures { λ r. ⌜ r ≡ found (get (now (document .entry)) (now (key .entry))) ⌝ }
 {
     c_answers::of_found(document::get_element(document, key))
@@ -73,7 +72,7 @@ pub extern "C" fn fringewell_lookup(document: &[u8], key: &[u8]) -> FoundNumbers
 
 // The first element of a key, under a limit.
 #[no_mangle]
-pub extern "C" fn fringewell_lookup_under(document: &[u8], key: &[u8], limit: usize) -> FoundNumbers
+pub extern "C" fn fringewell_lookup_under(document: &[u8], key: &[u8], limit: usize) -> ValueNumbers
     ensures { λ r. ⌜ r ≡ found (getUnder (most limit) (now (document .entry)) (now (key .entry))) ⌝ }
 {
     c_answers::of_found(document::get_element_under(document, key, cstr::most_of(limit)))
@@ -81,7 +80,7 @@ pub extern "C" fn fringewell_lookup_under(document: &[u8], key: &[u8], limit: us
 
 // The first element of a key, whose value must have this tag.
 #[no_mangle]
-pub extern "C" fn fringewell_lookup_typed(document: &[u8], key: &[u8], tag: u8) -> FoundNumbers
+pub extern "C" fn fringewell_lookup_typed(document: &[u8], key: &[u8], tag: u8) -> ValueNumbers
     ensures { λ r. ⌜ r ≡ found (getWith (now (document .entry)) (now (key .entry)) tag) ⌝ }
 {
     c_answers::of_found(document::get_with(document, key, tag))
@@ -94,7 +93,7 @@ pub extern "C" fn fringewell_lookup_typed_under(
     key: &[u8],
     tag: u8,
     limit: usize,
-) -> FoundNumbers
+) -> ValueNumbers
     ensures { λ r. ⌜ r ≡ found (getWithUnder (most limit) (now (document .entry)) (now (key .entry)) tag) ⌝ }
 {
     c_answers::of_found(document::get_with_under(document, key, tag, cstr::most_of(limit)))
@@ -122,40 +121,63 @@ pub extern "C" fn fringewell_step_under(
     c_answers::of_step(iter::next_under(document, Cursor { offset, ended }, most))
 }
 
-// The value of the element at a place.
+// The element at a cursor, its value, and the cursor behind it: a step, and the reading of what it yields. That it is written out here and
+// below, and shared by no function, is for speed: the answer is then not copied.
+#[no_mangle]
+pub extern "C" fn fringewell_next(document: &[u8], offset: usize, ended: bool) -> ElementNumbers
+    ensures { λ r. ⌜ r ≡ reads (now (document .entry)) (cursor offset ended) ⌝ }
+{
+    match iter::next(document, Cursor { offset, ended }) {
+        Step::Yield { element, next } => {
+            c_answers::of_element(element, reading::value_of(document, element), next)
+        }
+        Step::End { next } => c_answers::no_element(0, 0, next),
+        Step::Refused {
+            number,
+            place,
+            next,
+        } => c_answers::no_element(number, place, next),
+    }
+}
+
+// The same, under a limit.
+#[no_mangle]
+pub extern "C" fn fringewell_next_under(
+    document: &[u8],
+    offset: usize,
+    ended: bool,
+    limit: usize,
+) -> ElementNumbers
+    ensures { λ r. ⌜ r ≡ readsUnder (most limit) (now (document .entry)) (cursor offset ended) ⌝ }
+{
+    let most = cstr::most_of(limit);
+    match iter::next_under(document, Cursor { offset, ended }, most) {
+        Step::Yield { element, next } => {
+            c_answers::of_element(element, reading::value_of(document, element), next)
+        }
+        Step::End { next } => c_answers::no_element(0, 0, next),
+        Step::Refused {
+            number,
+            place,
+            next,
+        } => c_answers::no_element(number, place, next),
+    }
+}
+
+// The element at a place, and its value.
 #[no_mangle]
 pub extern "C" fn fringewell_read(document: &[u8], place: usize) -> ValueNumbers
-    ensures { λ r. ⌜ r ≡ valueRead (value.readAt (now (document .entry)) place) ⌝ }
+    ensures { λ r. ⌜ r ≡ found (getAt (now (document .entry)) place) ⌝ }
 {
-    c_answers::of_reading(reading::read_at(document, place))
+    c_answers::of_found(document::element_at(document, place))
 }
 
-// The value of the element at a place, under a limit.
+// The same, under a limit.
 #[no_mangle]
 pub extern "C" fn fringewell_read_under(document: &[u8], place: usize, limit: usize) -> ValueNumbers
-    ensures { λ r. ⌜ r ≡ valueRead (value.readAtUnder (most limit) (now (document .entry)) place) ⌝ }
+    ensures { λ r. ⌜ r ≡ found (getAtUnder (most limit) (now (document .entry)) place) ⌝ }
 {
-    c_answers::of_reading(reading::read_at_under(document, place, cstr::most_of(limit)))
-}
-
-// The value of an element that a step gave, by its place, its tag and where its framed value lies: no second step.
-#[no_mangle]
-pub extern "C" fn fringewell_value_of(
-    document: &[u8],
-    place: usize,
-    tag: u8,
-    offset: usize,
-    size: usize,
-) -> ValueNumbers
-    ensures { λ r. ⌜ r ≡ valueRead (value.valueOf (now (document .entry)) (given place tag offset size)) ⌝ }
-{
-    let element = Element {
-        place,
-        tag,
-        key: Part { offset: 0, size: 0 },
-        value: Part { offset, size },
-    };
-    c_answers::of_reading(reading::value_of(document, element))
+    c_answers::of_found(document::element_at_under(document, place, cstr::most_of(limit)))
 }
 
 // Both documents as one, at the front of a lent buffer.
@@ -166,25 +188,33 @@ pub extern "C" fn fringewell_join(first: &[u8], second: &[u8], out: &mut [u8]) -
     c_answers::of_joined(join::join(out, first, second))
 }
 
+// The version of this library: a million times the major number, a thousand times the minor one, and the patch.
+#[no_mangle]
+pub extern "C" fn fringewell_version() -> u32
+    ensures { λ r. ⌜ r ≡ 9000 ⌝ }
+{
+    9000
+}
+
 // The writer's state, which C lends: 406 words.
 #[repr(C)]
-pub struct Writer {
+pub struct State {
     pub words: Words,
 }
 
 // A fresh state: nothing used, nothing open.
 #[no_mangle]
-pub extern "C" fn fringewell_writer_new() -> Writer
+pub extern "C" fn fringewell_state_new() -> State
     ensures { λ r. ⌜ r .words ≡ writer.fresh ⌝ }
 {
-    Writer {
+    State {
         words: [0; writer_state::WORDS],
     }
 }
 
 // Opens the top.
 #[no_mangle]
-pub extern "C" fn fringewell_writer_open(words: &mut Words, out: &mut [u8]) -> WrittenNumbers
+pub extern "C" fn fringewell_state_open(words: &mut Words, out: &mut [u8]) -> WrittenNumbers
     ensures { λ r. ⌜ leaves r (now (words .exit)) (now (out .exit))
         ≡ performs (writer.openTop) (now (words .entry)) (now (out .entry)) ⌝ }
 {
@@ -194,7 +224,7 @@ pub extern "C" fn fringewell_writer_open(words: &mut Words, out: &mut [u8]) -> W
 
 // Opens a document in the innermost.
 #[no_mangle]
-pub extern "C" fn fringewell_writer_open_document(
+pub extern "C" fn fringewell_state_open_document(
     words: &mut Words,
     out: &mut [u8],
     key: &[u8],
@@ -208,7 +238,7 @@ pub extern "C" fn fringewell_writer_open_document(
 
 // Opens an array in the innermost.
 #[no_mangle]
-pub extern "C" fn fringewell_writer_open_array(
+pub extern "C" fn fringewell_state_open_array(
     words: &mut Words,
     out: &mut [u8],
     key: &[u8],
@@ -222,7 +252,7 @@ pub extern "C" fn fringewell_writer_open_array(
 
 // Closes the innermost.
 #[no_mangle]
-pub extern "C" fn fringewell_writer_close(words: &mut Words, out: &mut [u8]) -> WrittenNumbers
+pub extern "C" fn fringewell_state_close(words: &mut Words, out: &mut [u8]) -> WrittenNumbers
     ensures { λ r. ⌜ leaves r (now (words .exit)) (now (out .exit))
         ≡ performs (writer.close) (now (words .entry)) (now (out .entry)) ⌝ }
 {
@@ -232,7 +262,7 @@ pub extern "C" fn fringewell_writer_close(words: &mut Words, out: &mut [u8]) -> 
 
 // Appends a double by its bits.
 #[no_mangle]
-pub extern "C" fn fringewell_append_double(
+pub extern "C" fn fringewell_state_append_double(
     words: &mut Words,
     out: &mut [u8],
     key: &[u8],
@@ -247,7 +277,7 @@ pub extern "C" fn fringewell_append_double(
 
 // Appends a boolean.
 #[no_mangle]
-pub extern "C" fn fringewell_append_bool(
+pub extern "C" fn fringewell_state_append_bool(
     words: &mut Words,
     out: &mut [u8],
     key: &[u8],
@@ -262,7 +292,7 @@ pub extern "C" fn fringewell_append_bool(
 
 // Appends an int32.
 #[no_mangle]
-pub extern "C" fn fringewell_append_int32(
+pub extern "C" fn fringewell_state_append_int32(
     words: &mut Words,
     out: &mut [u8],
     key: &[u8],
@@ -277,7 +307,7 @@ pub extern "C" fn fringewell_append_int32(
 
 // Appends an int64.
 #[no_mangle]
-pub extern "C" fn fringewell_append_int64(
+pub extern "C" fn fringewell_state_append_int64(
     words: &mut Words,
     out: &mut [u8],
     key: &[u8],
@@ -292,7 +322,7 @@ pub extern "C" fn fringewell_append_int64(
 
 // Appends a datetime, in milliseconds since 1970.
 #[no_mangle]
-pub extern "C" fn fringewell_append_datetime(
+pub extern "C" fn fringewell_state_append_datetime(
     words: &mut Words,
     out: &mut [u8],
     key: &[u8],
@@ -307,7 +337,7 @@ pub extern "C" fn fringewell_append_datetime(
 
 // Appends a timestamp.
 #[no_mangle]
-pub extern "C" fn fringewell_append_timestamp(
+pub extern "C" fn fringewell_state_append_timestamp(
     words: &mut Words,
     out: &mut [u8],
     key: &[u8],
@@ -323,7 +353,7 @@ pub extern "C" fn fringewell_append_timestamp(
 
 // Appends a null.
 #[no_mangle]
-pub extern "C" fn fringewell_append_null(
+pub extern "C" fn fringewell_state_append_null(
     words: &mut Words,
     out: &mut [u8],
     key: &[u8],
@@ -337,7 +367,7 @@ pub extern "C" fn fringewell_append_null(
 
 // Appends an undefined.
 #[no_mangle]
-pub extern "C" fn fringewell_append_undefined(
+pub extern "C" fn fringewell_state_append_undefined(
     words: &mut Words,
     out: &mut [u8],
     key: &[u8],
@@ -351,7 +381,7 @@ pub extern "C" fn fringewell_append_undefined(
 
 // Appends a min key.
 #[no_mangle]
-pub extern "C" fn fringewell_append_min_key(
+pub extern "C" fn fringewell_state_append_min_key(
     words: &mut Words,
     out: &mut [u8],
     key: &[u8],
@@ -365,7 +395,7 @@ pub extern "C" fn fringewell_append_min_key(
 
 // Appends a max key.
 #[no_mangle]
-pub extern "C" fn fringewell_append_max_key(
+pub extern "C" fn fringewell_state_append_max_key(
     words: &mut Words,
     out: &mut [u8],
     key: &[u8],
@@ -379,7 +409,7 @@ pub extern "C" fn fringewell_append_max_key(
 
 // Appends a string.
 #[no_mangle]
-pub extern "C" fn fringewell_append_string(
+pub extern "C" fn fringewell_state_append_string(
     words: &mut Words,
     out: &mut [u8],
     key: &[u8],
@@ -394,7 +424,7 @@ pub extern "C" fn fringewell_append_string(
 
 // Appends JavaScript code.
 #[no_mangle]
-pub extern "C" fn fringewell_append_code(
+pub extern "C" fn fringewell_state_append_code(
     words: &mut Words,
     out: &mut [u8],
     key: &[u8],
@@ -409,7 +439,7 @@ pub extern "C" fn fringewell_append_code(
 
 // Appends a symbol.
 #[no_mangle]
-pub extern "C" fn fringewell_append_symbol(
+pub extern "C" fn fringewell_state_append_symbol(
     words: &mut Words,
     out: &mut [u8],
     key: &[u8],
@@ -424,7 +454,7 @@ pub extern "C" fn fringewell_append_symbol(
 
 // Appends binary data.
 #[no_mangle]
-pub extern "C" fn fringewell_append_binary(
+pub extern "C" fn fringewell_state_append_binary(
     words: &mut Words,
     out: &mut [u8],
     key: &[u8],
@@ -441,7 +471,7 @@ pub extern "C" fn fringewell_append_binary(
 
 // Appends a regular expression.
 #[no_mangle]
-pub extern "C" fn fringewell_append_regex(
+pub extern "C" fn fringewell_state_append_regex(
     words: &mut Words,
     out: &mut [u8],
     key: &[u8],
@@ -458,7 +488,7 @@ pub extern "C" fn fringewell_append_regex(
 
 // Appends a DBPointer.
 #[no_mangle]
-pub extern "C" fn fringewell_append_dbpointer(
+pub extern "C" fn fringewell_state_append_dbpointer(
     words: &mut Words,
     out: &mut [u8],
     key: &[u8],
@@ -475,7 +505,7 @@ pub extern "C" fn fringewell_append_dbpointer(
 
 // Appends an ObjectId.
 #[no_mangle]
-pub extern "C" fn fringewell_append_object_id(
+pub extern "C" fn fringewell_state_append_object_id(
     words: &mut Words,
     out: &mut [u8],
     key: &[u8],
@@ -490,7 +520,7 @@ pub extern "C" fn fringewell_append_object_id(
 
 // Appends a decimal128 by its bits.
 #[no_mangle]
-pub extern "C" fn fringewell_append_decimal128(
+pub extern "C" fn fringewell_state_append_decimal128(
     words: &mut Words,
     out: &mut [u8],
     key: &[u8],

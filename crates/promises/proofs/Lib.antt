@@ -1,4 +1,6 @@
+mod OneTurn
 pub mod Trace
 pub mod NoWeaker
+pub mod CTrace
 pub mod OneFrame
-pub mod ReadOnce
+pub mod OneValue

@@ -1,1 +1,2 @@
 pub mod Turn
+pub mod CTurn

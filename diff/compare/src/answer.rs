@@ -1,20 +1,33 @@
 //! What each side answers, in one form that can be compared, and the part of a case that was asked.
 
 use std::fmt;
-use std::ops::RangeInclusive;
 
+use boundary::{Element, Stepped, Value, Verdict, Written};
 use bson::spec::ElementType;
 use oracle::step::{Kind, Limit};
 use oracle::value::Content;
 
-use crate::library::{Found, Stepped, Value, Verdict};
-use crate::library_writer::Written;
-
-const NO_ZERO: u64 = 5;
-const NOT_UTF8: u64 = 6;
-const TOO_LONG: u64 = 22;
+const NO_ZERO: u32 = 5;
+const NOT_UTF8: u32 = 6;
+const TOO_LONG: u32 = 22;
 
 const STRAY: Kind = "a number that this call does not give";
+
+/// An element, and its framed value by offset and size.
+#[derive(Clone, Copy, Debug, PartialEq)]
+pub struct Framed {
+    pub place: usize,
+    pub tag: u8,
+    pub value: (usize, usize),
+}
+
+/// An element that a step yields, its key by offset and size, and the cursor behind it.
+#[derive(Clone, Copy, Debug, PartialEq)]
+pub struct Yielded {
+    pub framed: Framed,
+    pub key: (usize, usize),
+    pub next: usize,
+}
 
 #[derive(Clone, Copy, Debug, PartialEq)]
 pub enum Answer {
@@ -23,22 +36,20 @@ pub enum Answer {
         place: usize,
     },
     Count(usize),
-    Element {
-        place: usize,
-        tag: u8,
-        key: (usize, usize),
-        value: (usize, usize),
-        next: usize,
-    },
+    /// Of a lookup, or of a reading at a place.
+    Value(Framed, Content),
+    Step(Yielded),
+    /// A step and the reading of what it yields: the content, or why it is refused.
+    Next(Yielded, Result<Content, Kind>),
     End {
         next: usize,
     },
-    Found {
+    /// A step that is refused, and the cursor behind it.
+    Stopped {
+        kind: Kind,
         place: usize,
-        tag: u8,
-        value: (usize, usize),
+        next: usize,
     },
-    Value(Content),
     /// The kind alone, or that the document is accepted.
     Verdict(Kind),
     /// The bytes that a writer has used.
@@ -48,42 +59,48 @@ pub enum Answer {
     /// The Rust is at odds with itself.
     Torn(&'static str),
     /// The library's fields are not such as the header promises.
-    Odd([u64; 9]),
+    Odd([usize; 8]),
 }
 
 /// The library's answer, with the number in it.
 #[derive(Clone, Copy)]
 pub struct Said {
     pub answer: Answer,
-    pub number: u64,
+    pub number: u32,
 }
 
 /// The numbers that a call may give: one of another call's, or of another limit's, would be wrong too.
+#[derive(Clone, Copy)]
 pub struct Numbers {
-    malformed: RangeInclusive<u64>,
+    malformed: &'static [u32],
     limited: bool,
 }
 
 impl Numbers {
-    fn new(malformed: RangeInclusive<u64>, limit: Limit) -> Self {
+    fn new(malformed: &'static [u32], limit: Limit) -> Self {
         let limited = limit.is_some();
         Self { malformed, limited }
     }
 
     pub fn admission() -> Self {
-        Self::new(1..=3, None)
+        Self::new(&[1, 2, 3], None)
     }
 
     pub fn step(limit: Limit) -> Self {
-        Self::new(4..=10, limit)
+        Self::new(&[4, 5, 7, 8, 9, 10], limit)
+    }
+
+    /// Of what a step yields: the limit was asked for by then.
+    fn yielded() -> Self {
+        Self::new(&[1, 2, 3, 8, 9, 10, 11, 12], None)
     }
 
     pub fn reading(limit: Limit) -> Self {
-        Self::new(1..=12, limit)
+        Self::new(&[1, 2, 3, 4, 5, 7, 8, 9, 10, 11, 12], limit)
     }
 
     /// RULES.md, "Numbers returned", the Rust's kinds; under a limit 22 is in the place of 5.
-    fn kind(&self, number: u64) -> Kind {
+    fn kind(&self, number: u32) -> Kind {
         match number {
             NO_ZERO if self.limited => STRAY,
             TOO_LONG if self.limited => "too-long",
@@ -100,13 +117,13 @@ impl Numbers {
 
 impl Said {
     /// `rest` are the fields that a refusal leaves 0, `given` the answer where there is none.
-    fn new(number: u64, place: u64, numbers: Numbers, rest: &[u64], given: Answer) -> Self {
+    fn new(number: u32, place: usize, numbers: Numbers, rest: &[usize], given: Answer) -> Self {
         let answer = match number {
             0 => given,
-            _ if rest.iter().any(|field| *field != 0) => odd(rest),
+            _ if any(rest) => odd(rest),
             _ => Answer::Refused {
                 kind: numbers.kind(number),
-                place: place as usize,
+                place,
             },
         };
         Self { answer, number }
@@ -114,79 +131,66 @@ impl Said {
 
     pub fn verdict(said: Verdict, numbers: Numbers) -> Self {
         let given = match said.place {
-            0 => Answer::Count(said.count as usize),
+            0 => Answer::Count(said.count),
             place => odd(&[place, said.count]),
         };
         Self::new(said.number, said.place, numbers, &[said.count], given)
     }
 
-    /// A step from this offset.
-    pub fn step(said: Stepped, offset: usize, numbers: Numbers) -> Self {
-        let element = [
-            said.tag,
-            said.key_offset,
-            said.key_size,
-            said.offset,
-            said.size,
-        ];
-        let stopped = said.ended == 1 && said.next == offset as u64;
-        if said.number != 0 && !stopped {
-            let answer = odd(&[said.ended, said.next]);
-            return Self {
-                answer,
-                number: said.number,
-            };
-        }
-        let given = match (said.ended, u8::try_from(said.tag)) {
-            (0, Ok(tag)) => Answer::Element {
-                place: said.place as usize,
-                tag,
-                key: (said.key_offset as usize, said.key_size as usize),
-                value: (said.offset as usize, said.size as usize),
-                next: said.next as usize,
-            },
-            (1, Ok(0)) if said.place == 0 && element == [0; 5] => Answer::End {
-                next: said.next as usize,
-            },
-            _ => odd(&element),
-        };
-        Self::new(said.number, said.place, numbers, &element, given)
-    }
-
+    /// A lookup, or a reading at a place.
     pub fn value(said: Value, numbers: Numbers) -> Self {
-        let parts = [said.offset, said.size, said.offset2, said.size2];
-        let [offset, size, offset2, size2] = parts.map(|field| field as usize);
-        let kind = u8::try_from(said.tag).ok().and_then(ElementType::from);
-        let given = match kind {
-            Some(kind) if said.place == 0 => Answer::Value(Content {
-                kind,
-                bits: said.bits,
-                parts: [(offset, size), (offset2, size2)],
-            }),
-            _ => odd(&[said.place, said.tag, said.bits]),
+        let fields = fields(&said);
+        let given = match content(&said) {
+            Some(content) => Answer::Value(framed(&said), content),
+            None => odd(&fields),
         };
-        let [a, b, c, d] = parts;
-        let rest = [said.tag, said.bits, a, b, c, d];
-        Self::new(said.number, said.place, numbers, &rest, given)
+        Self::new(said.number, said.place, numbers, &fields, given)
     }
 
-    pub fn found(said: Found, numbers: Numbers) -> Self {
-        let rest = [said.tag, said.offset, said.size];
-        let given = match u8::try_from(said.tag) {
-            Ok(tag) => Answer::Found {
-                place: said.place as usize,
-                tag,
-                value: (said.offset as usize, said.size as usize),
+    pub fn step(said: Stepped, numbers: Numbers) -> Self {
+        let yielded = Yielded {
+            framed: Framed {
+                place: said.place,
+                tag: said.tag,
+                value: (said.framed_offset, said.framed_size),
             },
-            Err(_) => odd(&rest),
+            key: (said.key_offset, said.key_size),
+            next: said.next,
         };
-        Self::new(said.number, said.place, numbers, &rest, given)
+        let number = said.number;
+        let answer = match (said.ended, number) {
+            (true, _) => stopped(number, yielded, numbers),
+            (false, 0) => Answer::Step(yielded),
+            (false, _) => odd(&[said.place, said.next]),
+        };
+        Self { answer, number }
+    }
+
+    /// A step and the reading of what it yields. Where this is refused, all but the content is given.
+    pub fn next(said: Element, numbers: Numbers) -> Self {
+        let value = said.value;
+        let yielded = Yielded {
+            framed: framed(&value),
+            key: (said.key_offset, said.key_size),
+            next: said.next,
+        };
+        let fields = fields(&value);
+        let [_, _, _, read @ ..] = fields;
+        let number = value.number;
+        let answer = match (said.ended, number, content(&value)) {
+            (false, 0, Some(content)) => Answer::Next(yielded, Ok(content)),
+            (false, 0, None) => odd(&fields),
+            _ if any(&read) => odd(&fields),
+            (false, ..) => Answer::Next(yielded, Err(Numbers::yielded().kind(number))),
+            (true, ..) => stopped(number, yielded, numbers),
+        };
+        Self { answer, number }
     }
 
     pub fn written(said: Written) -> Self {
         let answer = match said.number {
-            0 => Answer::Used(said.used as usize),
-            number => odd(&[number, said.used]),
+            0 => Answer::Used(said.used),
+            number => odd(&[number as usize, said.used]),
         };
         let number = said.number;
         Self { answer, number }
@@ -198,10 +202,76 @@ impl Said {
     }
 }
 
-fn odd(fields: &[u64]) -> Answer {
-    let mut all = [0; 9];
+/// A step that yields nothing: of what an element has, a refusal gives the place, and the end not even that.
+fn stopped(number: u32, yielded: Yielded, numbers: Numbers) -> Answer {
+    let Yielded { framed, key, next } = yielded;
+    let Framed { place, tag, value } = framed;
+    let element = [usize::from(tag), key.0, key.1, value.0, value.1];
+    match number {
+        _ if any(&element) => odd(&element),
+        0 if place != 0 => odd(&[place]),
+        0 => Answer::End { next },
+        _ => Answer::Stopped {
+            kind: numbers.kind(number),
+            place,
+            next,
+        },
+    }
+}
+
+fn framed(value: &Value) -> Framed {
+    Framed {
+        place: value.place,
+        tag: value.tag,
+        value: (value.framed_offset, value.framed_size),
+    }
+}
+
+/// What was read; none where no type has the tag.
+fn content(value: &Value) -> Option<Content> {
+    Some(Content {
+        kind: ElementType::from(value.tag)?,
+        bits: value.bits,
+        parts: [(value.offset, value.size), (value.offset2, value.size2)],
+    })
+}
+
+/// Tag and framed bytes, and then what was read.
+fn fields(value: &Value) -> [usize; 8] {
+    [
+        usize::from(value.tag),
+        value.framed_offset,
+        value.framed_size,
+        value.bits as usize,
+        value.offset,
+        value.size,
+        value.offset2,
+        value.size2,
+    ]
+}
+
+fn any(fields: &[usize]) -> bool {
+    fields.iter().any(|field| *field != 0)
+}
+
+fn odd(fields: &[usize]) -> Answer {
+    let mut all = [0; 8];
     all[..fields.len()].copy_from_slice(fields);
     Answer::Odd(all)
+}
+
+impl fmt::Display for Framed {
+    fn fmt(&self, f: &mut fmt::Formatter) -> fmt::Result {
+        let Self { place, tag, value } = self;
+        write!(f, "tag {tag:02x} at {place}, framed {value:?}")
+    }
+}
+
+impl fmt::Display for Yielded {
+    fn fmt(&self, f: &mut fmt::Formatter) -> fmt::Result {
+        let Self { framed, key, next } = self;
+        write!(f, "{framed}, key {key:?}, next {next}")
+    }
 }
 
 impl fmt::Display for Answer {
@@ -209,21 +279,14 @@ impl fmt::Display for Answer {
         match self {
             Self::Refused { kind, place } => write!(f, "refused {kind} at {place}"),
             Self::Count(count) => write!(f, "{count}"),
-            Self::Element {
-                place,
-                tag,
-                key,
-                value,
-                next,
-            } => write!(
-                f,
-                "tag {tag:02x} at {place}, key {key:?}, value {value:?}, next {next}"
-            ),
+            Self::Value(framed, content) => write!(f, "{framed}, {content}"),
+            Self::Step(yielded) => write!(f, "{yielded}"),
+            Self::Next(yielded, Ok(content)) => write!(f, "{yielded}, {content}"),
+            Self::Next(yielded, Err(kind)) => write!(f, "{yielded}, refused {kind}"),
             Self::End { next } => write!(f, "end, next {next}"),
-            Self::Found { place, tag, value } => {
-                write!(f, "tag {tag:02x} at {place}, value {value:?}")
+            Self::Stopped { kind, place, next } => {
+                write!(f, "refused {kind} at {place}, next {next}")
             }
-            Self::Value(content) => write!(f, "{content}"),
             Self::Verdict(kind) => write!(f, "{kind}"),
             Self::Used(used) => write!(f, "0, used {used}"),
             Self::Wrote(same) => write!(f, "the same for {same} bytes"),
@@ -248,16 +311,16 @@ pub enum Part<'a> {
     Empty,
     Step(usize),
     EndedStep(usize),
+    /// A step and the reading of what it yields.
+    Next(usize),
+    EndedNext(usize),
     Read(usize),
-    ReadGiven(usize),
     Check,
     StrictCheck,
     /// The plain check against the Rust's own walk, `deep_utf8_lossy`, by kind.
     DeepCheck,
     Get(&'a [u8]),
     Typed(&'a [u8], u8),
-    /// The reading at the place of what a lookup found, against what the lookup of the Rust gave.
-    Looked(&'a [u8]),
     Call(usize),
     Bytes,
     Behind,
@@ -270,14 +333,14 @@ impl Part<'_> {
             Self::Empty => "is_empty",
             Self::Step(_) => "step",
             Self::EndedStep(_) => "step from an ended cursor",
+            Self::Next(_) => "next element",
+            Self::EndedNext(_) => "next element from an ended cursor",
             Self::Read(_) => "value",
-            Self::ReadGiven(_) => "value of the element given",
             Self::Check => "check",
             Self::StrictCheck => "strict check",
             Self::DeepCheck => "check, by the Rust's own walk",
             Self::Get(_) => "get",
             Self::Typed(..) => "typed lookup",
-            Self::Looked(_) => "value found",
             Self::Call(_) => "writer's call",
             Self::Bytes => "written bytes",
             Self::Behind => "bytes behind those written",
@@ -298,10 +361,9 @@ impl fmt::Display for Part<'_> {
     fn fmt(&self, f: &mut fmt::Formatter) -> fmt::Result {
         let word = self.word();
         match self {
-            Self::Step(at) | Self::EndedStep(at) | Self::Read(at) | Self::ReadGiven(at) => {
-                write!(f, "{word} at {at}")
-            }
-            Self::Get(key) | Self::Looked(key) => write!(f, "{word} [{}]", shown(key)),
+            Self::Step(at) | Self::EndedStep(at) | Self::Read(at) => write!(f, "{word} at {at}"),
+            Self::Next(at) | Self::EndedNext(at) => write!(f, "{word} at {at}"),
+            Self::Get(key) => write!(f, "{word} [{}]", shown(key)),
             Self::Typed(key, tag) => write!(f, "{word} [{}] {tag:02x}", shown(key)),
             Self::Call(number) => write!(f, "{word} {number}"),
             _ => write!(f, "{word}"),

@@ -9,6 +9,7 @@ use crate::answer::{Answer, Numbers, Part, Said};
 use crate::keys::Asked;
 use crate::ledger::Ledger;
 use crate::library::Lent;
+use crate::slice::framed;
 
 /// The tags that have a getter.
 const GETTERS: [u8; 12] = [
@@ -90,29 +91,22 @@ impl Lookup<'_> {
             return;
         };
         let said = lent.lookup(self.key, tag);
-        let said = Said::found(said, Numbers::reading(lent.limit));
+        let said = Said::value(said, Numbers::reading(lent.limit));
         let part = match tag {
             Some(tag) => Part::Typed(self.key, tag),
             None => Part::Get(self.key),
         };
-        ledger.hold(part, self.located(&answer), said);
-        if let (Ok(value), Some(element)) = (answer, &self.found) {
-            let rust = Answer::Value(Content::of(element, value));
-            let said = Said::value(lent.read(self.place), Numbers::reading(lent.limit));
-            ledger.hold(Part::Looked(self.key), rust, said);
-        }
+        ledger.hold(part, self.located(answer), said);
     }
 
-    /// The Rust's answer to a lookup, with the place.
-    fn located(&self, answer: &Result<Value, Kind>) -> Answer {
+    /// The Rust's answer to a lookup, with the element.
+    fn located(&self, answer: Result<Value, Kind>) -> Answer {
         let place = self.place;
         match (answer, &self.found) {
             (Err(kind), _) => Answer::Refused { kind, place },
-            (Ok(_), Some(element)) => Answer::Found {
-                place,
-                tag: element.raw.element_type() as u8,
-                value: (element.offset, element.raw.size()),
-            },
+            (Ok(value), Some(element)) => {
+                Answer::Value(framed(element), Content::of(element, value))
+            }
             (Ok(_), None) => Answer::Torn("found what its iteration does not yield"),
         }
     }

@@ -1,12 +1,13 @@
 //! A writer's session through the Rust's DocWriter and through the library's writer: RULES.md, "Writer and joining".
 
+use boundary::Written;
 use bson::document::writer::{append_cstr, append_string, Writer};
 use bson::raw::CStr;
 use bson::spec::ElementType;
 
 use crate::answer::{Answer, Part, Said};
 use crate::ledger::Ledger;
-use crate::library_writer::{Writer as Library, Written};
+use crate::library_writer::Writer as Library;
 use crate::panics::caught;
 use crate::tree::{Element, Value, OLD_BINARY};
 

@@ -2,13 +2,13 @@
 
 use bson::RawDocument;
 use oracle::check::{walk, Walk};
-use oracle::step::{kind, Element, Kind, Limit, Steps};
+use oracle::step::{kind, Element, Kind, Limit, Refusal, Steps};
 use oracle::value::{Content, Reading};
 
-use crate::answer::{Answer, Numbers, Part, Said};
+use crate::answer::{Answer, Framed, Numbers, Part, Said, Yielded};
 use crate::keys::Asked;
 use crate::ledger::Ledger;
-use crate::library::{is_empty, value_of, Lent};
+use crate::library::{is_empty, Lent};
 use crate::lookups;
 use crate::panics::caught;
 
@@ -17,6 +17,8 @@ const BEHIND: [u8; 16] = [0; 16];
 
 /// The Rust's own walk keeps all that it reads, so it is not asked about more values than these.
 const MOST_KEPT: usize = 20_000_000;
+
+const LOSSY_DIFFERS: Answer = Answer::Torn("another value by its lossy reading");
 
 /// Compares all answers about a slice under a limit, or without one; a panic of the Rust is a disagreement.
 pub fn compare(bytes: &[u8], limit: Limit, ledger: &mut Ledger) {
@@ -47,18 +49,20 @@ pub fn compare_within(longer: &[u8], limit: Limit, ledger: &mut Ledger) {
 /// Without admission the Rust has no document to ask, so its refusal is every answer.
 fn refused(lent: Lent, kind: Kind, ledger: &mut Ledger) {
     let rust = Answer::Refused { kind, place: 0 };
-    let verdict = |verdict| Said::verdict(verdict, Numbers::admission());
+    let numbers = Numbers::admission();
+    let verdict = |verdict| Said::verdict(verdict, numbers);
     if lent.limit.is_none() {
         ledger.hold(Part::Empty, rust, verdict(is_empty(lent.bytes)));
     }
     ledger.hold(Part::Check, rust, verdict(lent.check()));
     ledger.hold(Part::StrictCheck, rust, verdict(lent.check_strict()));
-    let step = |ended| Said::step(lent.step(4, ended), 4, Numbers::admission());
-    ledger.hold(Part::Step(4), rust, step(false));
-    ledger.hold(Part::EndedStep(4), rust, step(true));
-    let value = Said::value(lent.read(4), Numbers::admission());
-    ledger.hold(Part::Read(4), rust, value);
-    let found = |tag| Said::found(lent.lookup(b"a", tag), Numbers::admission());
+    let (place, next) = (0, 4);
+    let stopped = Answer::Stopped { kind, place, next };
+    for ended in [false, true] {
+        hold_steps(lent, (next, ended), numbers, [stopped; 2], ledger);
+    }
+    ledger.hold(Part::Read(4), rust, Said::value(lent.read(4), numbers));
+    let found = |tag| Said::value(lent.lookup(b"a", tag), numbers);
     ledger.hold(Part::Get(b"a"), rust, found(None));
     ledger.hold(Part::Typed(b"a", 0x10), rust, found(Some(0x10)));
 }
@@ -74,52 +78,89 @@ fn admitted(doc: &RawDocument, lent: Lent, ledger: &mut Ledger) {
     lookups::compare(doc, lent, &asked, ledger);
 }
 
+/// Holds both calls that step from a cursor to the Rust's step: the one, and the one that reads what the step yields.
+fn hold_steps(
+    lent: Lent,
+    (at, ended): (usize, bool),
+    numbers: Numbers,
+    [step, next]: [Answer; 2],
+    ledger: &mut Ledger,
+) {
+    let [one, other] = match ended {
+        false => [Part::Step(at), Part::Next(at)],
+        true => [Part::EndedStep(at), Part::EndedNext(at)],
+    };
+    ledger.hold(one, step, Said::step(lent.step(at, ended), numbers));
+    ledger.hold(other, next, Said::next(lent.next(at, ended), numbers));
+}
+
 /// Every step until it ends or is refused, with every value; gives the keys to look up.
 fn steps<'a>(doc: &'a RawDocument, lent: Lent<'a>, ledger: &mut Ledger) -> Asked<'a> {
     let Lent { bytes, limit } = lent;
     let mut asked = Asked::new(bytes);
     let mut steps = Steps::new(bytes, doc, limit);
-    let last = loop {
-        let said = lent.step(steps.at, false);
-        let said = Said::step(said, steps.at, Numbers::step(limit));
-        let part = Part::Step(steps.at);
+    let (last, reading) = loop {
+        let at = steps.at;
         match steps.next() {
             Some(Ok(element)) => {
-                ledger.hold(part, yielded(&element), said);
-                let read = value(&element, lent, ledger);
+                let read = hold_element(&element, lent, ledger);
                 asked.meet(&element, read);
             }
-            Some(Err(refusal)) => {
-                let rust = Answer::Refused {
-                    kind: refusal.0,
-                    place: refusal.1,
-                };
-                ledger.hold(part, rust, said);
-                break rust;
+            Some(Err(Refusal(kind, place))) => {
+                let next = at;
+                let stopped = Answer::Stopped { kind, place, next };
+                break (stopped, Answer::Refused { kind, place });
             }
             None => {
-                ledger.hold(part, ended(bytes, steps.at), said);
-                break Answer::Refused {
-                    kind: "not-present",
-                    place: steps.at,
-                };
+                let (kind, place) = ("not-present", at);
+                break (ended(bytes, at), Answer::Refused { kind, place });
             }
         }
     };
-    stopped(lent, &mut steps, last, ledger);
+    stopped(lent, &mut steps, last, reading, ledger);
     asked.stopped_at(steps.at);
     asked
 }
 
-fn yielded(element: &Element) -> Answer {
-    let key = element.raw.key().len();
-    let size = element.raw.size();
-    Answer::Element {
+/// Holds an element that the Rust yields, by its step and by its reading; true where this gave a value.
+fn hold_element(element: &Element, lent: Lent, ledger: &mut Ledger) -> bool {
+    let place = element.place;
+    let yielded = yielded(element);
+    let reading = Reading::of(element);
+    let (next, value) = match reading.value {
+        _ if reading.differs => (LOSSY_DIFFERS, LOSSY_DIFFERS),
+        Ok(value) => {
+            let content = Content::of(element, value);
+            let next = Answer::Next(yielded, Ok(content));
+            (next, Answer::Value(yielded.framed, content))
+        }
+        Err(kind) => {
+            let next = Answer::Next(yielded, Err(kind));
+            (next, Answer::Refused { kind, place })
+        }
+    };
+    let numbers = Numbers::step(lent.limit);
+    let rust = [Answer::Step(yielded), next];
+    hold_steps(lent, (place, false), numbers, rust, ledger);
+    let said = Said::value(lent.read(place), Numbers::reading(lent.limit));
+    ledger.hold(Part::Read(place), value, said);
+    reading.value.is_ok()
+}
+
+fn yielded(element: &Element) -> Yielded {
+    Yielded {
+        framed: framed(element),
+        key: (element.place + 1, element.raw.key().len()),
+        next: element.offset + element.raw.size(),
+    }
+}
+
+/// Where the Rust has an element.
+pub fn framed(element: &Element) -> Framed {
+    Framed {
         place: element.place,
         tag: element.raw.element_type() as u8,
-        key: (element.place + 1, key),
-        value: (element.offset, size),
-        next: element.offset + size,
+        value: (element.offset, element.raw.size()),
     }
 }
 
@@ -131,41 +172,18 @@ fn ended(bytes: &[u8], at: usize) -> Answer {
     }
 }
 
-/// Where the steps ended or were refused: reading there is refused likewise, and the cursor stays ended.
-fn stopped(lent: Lent, steps: &mut Steps, reading: Answer, ledger: &mut Ledger) {
+/// The last step. Reading there is refused likewise, and the cursor stays ended.
+fn stopped(lent: Lent, steps: &mut Steps, last: Answer, reading: Answer, ledger: &mut Ledger) {
     let at = steps.at;
+    let numbers = Numbers::step(lent.limit);
+    hold_steps(lent, (at, false), numbers, [last; 2], ledger);
     let said = Said::value(lent.read(at), Numbers::reading(lent.limit));
     ledger.hold(Part::Read(at), reading, said);
     let again = match steps.next() {
         None => Answer::End { next: at },
         Some(_) => Answer::Torn("went on behind its end"),
     };
-    let said = Said::step(lent.step(at, true), at, Numbers::step(lent.limit));
-    ledger.hold(Part::EndedStep(at), again, said);
-}
-
-/// The reading of an element; true where it gave a value.
-fn value(element: &Element, lent: Lent, ledger: &mut Ledger) -> bool {
-    let reading = Reading::of(element);
-    let rust = match reading.value {
-        _ if reading.differs => Answer::Torn("another value by its lossy reading"),
-        Ok(value) => Answer::Value(Content::of(element, value)),
-        Err(kind) => Answer::Refused {
-            kind,
-            place: element.place,
-        },
-    };
-    let place = element.place;
-    let said = Said::value(lent.read(place), Numbers::reading(lent.limit));
-    ledger.hold(Part::Read(place), rust, said);
-    if lent.limit.is_none() {
-        let tag = element.raw.element_type() as u8;
-        let framed = (element.offset, element.raw.size());
-        let said = value_of(lent.bytes, place, tag, framed);
-        let said = Said::value(said, Numbers::reading(None));
-        ledger.hold(Part::ReadGiven(place), rust, said);
-    }
-    reading.value.is_ok()
+    hold_steps(lent, (at, true), numbers, [again; 2], ledger);
 }
 
 fn checks(doc: &RawDocument, lent: Lent, ledger: &mut Ledger) {
@@ -191,7 +209,7 @@ fn checks(doc: &RawDocument, lent: Lent, ledger: &mut Ledger) {
 
 fn verdict(walk: &Walk) -> Answer {
     match &walk.verdict {
-        _ if walk.differs => Answer::Torn("another value by its lossy reading"),
+        _ if walk.differs => LOSSY_DIFFERS,
         Ok(()) => Answer::Count(walk.count),
         Err(refusal) => Answer::Refused {
             kind: refusal.0,
