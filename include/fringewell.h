@@ -19,8 +19,8 @@
 #ifndef FRINGEWELL_H
 #define FRINGEWELL_H
 
-#if !defined(__x86_64__) || !defined(__LP64__)
-#error "Fringewell is built for x86-64 with 64-bit pointers only"
+#if !defined(__x86_64__) || !defined(__LP64__) || !defined(__linux__)
+#error "Fringewell is built for x86-64 Linux with 64-bit pointers only"
 #endif
 
 #include <stdbool.h>

@@ -9,8 +9,7 @@ ghost use Rattle.bson.specs.Lookup.{getUnder, getWithUnder, getAtUnder, get, ge
 ghost use Rattle.bson.specs.Step.{cursor};
 ghost use Rattle.bson.specs.Value as value;
 ghost use Rattle.bson.specs.Writer as writer;
-ghost use Rattle.c_answers.specs.Numbers.{verdict, emptiness, found, stepRead};
-ghost use Rattle.iter.specs.Said.{said, cursorBehind};
+ghost use Rattle.c_answers.specs.Numbers.{verdict, emptiness, found};
 ghost use Rattle.fringewell.specs.Left.{stepsUnder, steps, readsUnder, reads, left, joins, leaves, performs};
 use c_answers::ElementNumbers;
 use c_answers::JoinedNumbers;

@@ -1,11 +1,10 @@
 -- A trace of turns through C is a run of the definition, so what it closes reads back; a refused turn changes nothing, and every turn keeps
 -- the bytes behind its output (demand 2; RULES.md, "Writer and joining" and module 8).
-use Prim.Native.Nat.{ℕ}
 use mathlib.Core.Path.{_≡_, refl, ap, subst, _∙_}
-use mathlib.Core.List.{List, [], _∷_}
+use mathlib.Core.List.{List}
 use lib.ListN.{length, drop}
 use denote.Ref.{now}
-use Rattle.bson.specs.Writer.{used, Desk, desk, Call, written, performed}
+use Rattle.bson.specs.Writer.{used, Desk, Call, written, performed}
 use Rattle.theorems.specs.ReadBack as readBack
 use Rattle.theorems.specs.ReadBack.{Building, built, Session, run, sessionStart, Stands}
 use Rattle.theorems.proofs.Writer.ReadBack.{writer-reads-back}

@@ -1,10 +1,8 @@
--- A value is the same by whichever call C has it: by a lookup, by a step that reads what it yields, by a reading at its place (RULES.md,
--- "Values"), under a limit and without one.
+-- Proof that a value is the same by whichever call C has it (RULES.md, "Values").
 use Prim.Native.Nat.{ℕ}
 use mathlib.Core.Path.{_≡_, refl, sym, ap, _∙_}
 use mathlib.Core.List.{List}
-use mathlib.Core.Bool.{true, false, cond, true≢false}
-use lib.Dec.{eqb}
+use mathlib.Core.Bool.{false, true≢false}
 use native.Mathlib.Omega.{arith}
 use borrow.Author.Tests.{ne-eqb}
 use Rattle.bson.specs.Answer.{Answer, gives, refuses}
@@ -12,54 +10,31 @@ use Rattle.bson.specs.Cstring.{Limit}
 use Rattle.bson.specs.Lookup as lookup
 use Rattle.bson.specs.Lookup.{Found, getUnder, getWithUnder, getAtUnder}
 use Rattle.bson.specs.Step.{Cursor, cursor, Element, Step, yield, end, stepUnder, after}
-use Rattle.bson.specs.Value.{Value, none, valueIn, valueOf, elementAtUnder}
+use Rattle.bson.specs.Value.{Value, valueIn, valueOf, elementAtUnder}
 use Rattle.laws.proofs.AdvanceLaws.{at-place}
 use Rattle.laws.proofs.LookupLaws.{FoundAt, get-finds, get-with-says, had-there}
 use Rattle.laws.proofs.ReadRefusals.{NoZero, no-zero, no-zero-under, reads, typedReads, get-in, get-with-in, value-in}
 use Rattle.laws.proofs.StepLaws.{step-yields}
-use Rattle.c_answers.specs.Numbers.{unvalued, found, stepped, yielded, stepRead}
+use Rattle.c_answers.specs.Numbers.{found, stepped, yielded, stepRead}
 use Rattle.c_answers.specs.declared.ElementNumbers.{ElementNumbers}
-use Rattle.c_answers.specs.declared.StepNumbers.{StepNumbers}
 use Rattle.c_answers.specs.declared.ValueNumbers.{ValueNumbers}
 use Rattle.fringewell.specs.Left.{stepsUnder, readsUnder}
-
--- the step in the numbers of one that read
-abbrev pub asStep : ElementNumbers → StepNumbers
-asStep n =
-    record {
-      number = cond (n .ended) (n .value .number) 0;
-      tag = n .value .tag;
-      ended = n .ended;
-      place = n .value .place;
-      next = n .next;
-      «key_offset» = n .«key_offset»;
-      «key_size» = n .«key_size»;
-      «framed_offset» = n .value .«framed_offset»;
-      «framed_size» = n .value .«framed_size»;
-    }
-
--- its value, without what a reading at a place does not tell of a refused one
-abbrev pub asRead : ValueNumbers → ValueNumbers
-asRead v = cond (eqb (v .number) 0) v (unvalued (v .number) (v .place) 0 none)
+use Rattle.promises.specs.OneValue.{asStep, asRead, readThere, OneValue}
 
 module _ (limit : Limit) (s : List ℕ) where
-  -- what `fringewell_read` answers at a place, or `fringewell_read_under` under the limit
-  abbrev pub readThere : ℕ → ValueNumbers
-  readThere place = found (getAtUnder limit s place)
-
   -- ---- lookups
 
   found-there : (a : Answer Found) → NoZero a → ((f : Found) → a ≡ gives f → FoundAt limit s f) → found a .number ≡ 0
-      → found a ≡ readThere (found a .place)
+      → found a ≡ readThere limit s (found a .place)
   found-there (gives f) h k z = sym (ap found (had-there limit s f (k f refl)))
   found-there (refuses number place) h k z = absurd (omega arith)
 
-  pub lookup-there : (key : List ℕ) (n : ValueNumbers) → n ≡ found (getUnder limit s key) → n .number ≡ 0 → n ≡ readThere (n .place)
+  lookup-there : (key : List ℕ) (n : ValueNumbers) → n ≡ found (getUnder limit s key) → n .number ≡ 0 → n ≡ readThere limit s (n .place)
   lookup-there key n q =
       rw q (found-there (getUnder limit s key) (no-zero-under reads limit refl (λ m. refl) (get-in limit s key)) (get-finds limit s key))
 
-  pub lookup-typed-there : (key : List ℕ) (tag : ℕ) (n : ValueNumbers) → n ≡ found (getWithUnder limit s key tag) → n .number ≡ 0
-      → n ≡ readThere (n .place)
+  lookup-typed-there : (key : List ℕ) (tag : ℕ) (n : ValueNumbers) → n ≡ found (getWithUnder limit s key tag) → n .number ≡ 0
+      → n ≡ readThere limit s (n .place)
   lookup-typed-there key tag n q =
       rw q
       (found-there (getWithUnder limit s key tag) (no-zero-under typedReads limit refl (λ m. refl) (get-with-in limit s key tag))
@@ -79,8 +54,7 @@ module _ (limit : Limit) (s : List ℕ) where
   steps-by c (gives end) = refl
   steps-by c (refuses number place) = refl
 
-  -- element and cursor are those of the step alone
-  pub next-step : (c : Cursor) (n : ElementNumbers) → n ≡ readsUnder limit s c → asStep n ≡ stepsUnder limit s c
+  next-step : (c : Cursor) (n : ElementNumbers) → n ≡ readsUnder limit s c → asStep n ≡ stepsUnder limit s c
   next-step c n q = rw q (steps-by c (stepUnder limit s c))
 
   -- where a step yields an element, that is the one at its place
@@ -103,17 +77,19 @@ module _ (limit : Limit) (s : List ℕ) where
   place-there e (refuses n p) d h = h n p refl
 
   reads-by : (c : Cursor) (x : Answer Step) → stepUnder limit s c ≡ x → stepRead s x (after c x) .ended ≡ false
-      → readThere (stepRead s x (after c x) .value .place) ≡ asRead (stepRead s x (after c x) .value)
+      → readThere limit s (stepRead s x (after c x) .value .place) ≡ asRead (stepRead s x (after c x) .value)
   unfolding valueOf
   reads-by c (gives (yield e)) x z =
       let d = after c (gives (yield e)) in
-      ap readThere (place-there e (valueOf s e) d (at-place (valueIn s (e .tag) (e .value)) (e .place)))
+      ap (readThere limit s) (place-there e (valueOf s e) d (at-place (valueIn s (e .tag) (e .value)) (e .place)))
       ∙ ap found (element-there c e x)
       ∙ value-there e (valueOf s e) d refl (no-zero refl (value-in s e))
   reads-by c (gives end) x z = absurd (true≢false z)
   reads-by c (refuses number place) x z = absurd (true≢false z)
 
-  -- and its value, or the refusal of that, is what a reading there answers
-  pub next-reads : (c : Cursor) (n : ElementNumbers) → n ≡ readsUnder limit s c → n .ended ≡ false
-      → readThere (n .value .place) ≡ asRead (n .value)
+  next-reads : (c : Cursor) (n : ElementNumbers) → n ≡ readsUnder limit s c → n .ended ≡ false
+      → readThere limit s (n .value .place) ≡ asRead (n .value)
   next-reads c n q = rw q (reads-by c (stepUnder limit s c) refl)
+
+  pub one-value : OneValue limit s
+  one-value = record { lookup = lookup-there; typed = lookup-typed-there; step = next-step; reads = next-reads }

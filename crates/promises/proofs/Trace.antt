@@ -2,7 +2,7 @@
 -- behind its output (demand 2; RULES.md, "Writer and joining").
 use Prim.Native.Nat.{ℕ}
 use mathlib.Core.Path.{_≡_, refl, ap, subst, _∙_}
-use mathlib.Core.List.{List, [], _∷_}
+use mathlib.Core.List.{List}
 use lib.ListN.{length, drop}
 use denote.Ref.{now}
 use Rattle.bson.specs.Writer.{used, Desk, desk, Call, written, performed}

@@ -1,7 +1,6 @@
 -- Turns of the writer through C, each a call of an exported function with an answer that its promise allows, and what is closed by them
 -- (demand 2; RULES.md, "Writer and joining" and module 8).
 use Prim.Native.Nat.{ℕ}
-use mathlib.Core.Path.{_≡_}
 use mathlib.Core.Bool.{Bool}
 use mathlib.Core.List.{List, [], _∷_}
 use lib.IntN.{ℤ}
