@@ -340,6 +340,20 @@ fringewell_value fringewell_read(const void *document, size_t length, size_t pla
 /* The value at a place under a limit. Refused by 16, and by 1 to 4, 6 to 12 and 22. */
 fringewell_value fringewell_read_under(const void *document, size_t length, size_t place, size_t limit);
 
+/* ---- Doubles: BSON compares them by their bits, and so do these calls ---- */
+
+static inline uint64_t fringewell_double_bits(double x) {
+    uint64_t bits;
+    memcpy(&bits, &x, sizeof bits);
+    return bits;
+}
+
+static inline double fringewell_bits_double(uint64_t bits) {
+    double x;
+    memcpy(&x, &bits, sizeof x);
+    return x;
+}
+
 /* ---- Typed getters: inline C over the calls above ----
  *
  * Each fringewell_get_.. is the typed lookup, and each fringewell_as_.. takes a value that another call answered of this document. They
@@ -382,7 +396,7 @@ static inline uint32_t fringewell_typed(fringewell_value value, uint8_t tag) {
 static inline uint32_t fringewell_as_double(fringewell_value value, double *out) {
     uint32_t number = fringewell_typed(value, FRINGEWELL_TAG_DOUBLE);
     if (number == FRINGEWELL_OK)
-        memcpy(out, &value.bits, sizeof *out);
+        *out = fringewell_bits_double(value.bits);
     return number;
 }
 
@@ -542,20 +556,6 @@ static inline uint32_t fringewell_get_object_id(const void *document, size_t len
 fringewell_joined fringewell_join(const void *first, size_t first_length, const void *second, size_t second_length, void *out,
                                   size_t out_length);
 
-/* ---- Doubles: BSON compares them by their bits, and so do these calls ---- */
-
-static inline uint64_t fringewell_double_bits(double x) {
-    uint64_t bits;
-    memcpy(&bits, &x, sizeof bits);
-    return bits;
-}
-
-static inline double fringewell_bits_double(uint64_t bits) {
-    double x;
-    memcpy(&x, &bits, sizeof x);
-    return x;
-}
-
 /* ---- Writing into a lent state and a lent buffer (RULES.md, "Writer and joining") ----
  *
  * These are the proved calls. The next section has shorter ones over them.
@@ -673,13 +673,15 @@ static inline uint32_t fringewell_writer_open(fringewell_writer *writer, void *o
 }
 
 static inline uint32_t fringewell_writer_open_document(fringewell_writer *writer, const void *key, size_t key_length) {
-    writer->levels += writer->number == FRINGEWELL_OK;
-    return FRINGEWELL_WRITE(writer, fringewell_state_open_document(FRINGEWELL_LENT(writer), key, key_length));
+    uint32_t number = FRINGEWELL_WRITE(writer, fringewell_state_open_document(FRINGEWELL_LENT(writer), key, key_length));
+    writer->levels += number == FRINGEWELL_OK;
+    return number;
 }
 
 static inline uint32_t fringewell_writer_open_array(fringewell_writer *writer, const void *key, size_t key_length) {
-    writer->levels += writer->number == FRINGEWELL_OK;
-    return FRINGEWELL_WRITE(writer, fringewell_state_open_array(FRINGEWELL_LENT(writer), key, key_length));
+    uint32_t number = FRINGEWELL_WRITE(writer, fringewell_state_open_array(FRINGEWELL_LENT(writer), key, key_length));
+    writer->levels += number == FRINGEWELL_OK;
+    return number;
 }
 
 /* Closes the innermost; with the top, `length` is known. */

@@ -202,7 +202,8 @@ module _ (s : List ℕ) where
   same-there : (a b : Answer Found) → Looks s a → Looks s b
       → (then a λ f. gives (f .element .place)) ≡ (then b λ f. gives (f .element .place))
       → a ≡ b
-  same-there (gives f) (gives g) l m e = ap gives (one-there (l .limit) (m .limit) f g (l .finds f refl) (m .finds g refl) (gives-injective e))
+  same-there (gives f) (gives g) l m e =
+      ap gives (one-there (l .limit) (m .limit) f g (l .finds f refl) (m .finds g refl) (gives-injective e))
   same-there (gives f) (refuses n p) l m e = never (sym e)
   same-there (refuses n p) (gives g) l m e = never e
   same-there (refuses n p) (refuses k q) l m e = cc
@@ -270,13 +271,6 @@ cursorOf n = cursor (n .next) (n .ended)
 abbrev readingOf : ElementNumbers → Answer Value
 readingOf n = answerOf (n .value .number) (n .value .place) (valueIs (n .value))
 
-module _ (s : List ℕ) where
-  -- the value that a step goes on to read
-  abbrev pub readingIn : Answer Step → Answer Value → Answer Value
-  readingIn (gives (yield e)) other = valueOf s e
-  readingIn (gives end) other = other
-  readingIn (refuses number place) other = other
-
 module _ (s : List ℕ) (small : AreBytes s) (c : Cursor) where
   abbrev numbers : Answer Step → ElementNumbers
   numbers x = stepRead s x (after c x)
@@ -289,7 +283,8 @@ module _ (s : List ℕ) (small : AreBytes s) (c : Cursor) where
   step-back : (x : Answer Step) → NoZero x → stepOf (numbers x) ≡ x
   unfolding valueOf
   step-back (gives (yield e)) h =
-      ap (λ (d : Element). gives (yield d)) (yielded-back e (cursor (past e) false) (valueOf s e) (at-place (valueIn s (e .tag) (e .value)) (e .place)))
+      let there = at-place (valueIn s (e .tag) (e .value)) (e .place) in
+      ap (λ (d : Element). gives (yield d)) (yielded-back e (cursor (past e) false) (valueOf s e) there)
   step-back (gives end) h = refl
   step-back (refuses number place) h = answer-refused number place end h
 

@@ -118,7 +118,8 @@ module _ (limit : Limit) (s : List ℕ) where
       let y = element-at-says limit s place e q in
       let placed = step-yields limit s (cursor place false) e y .placed in
       let there = subst (λ (p : ℕ). stepUnder limit s (cursor p false) ≡ gives (yield e)) (sym placed) y in
-      subst (λ (d : Found). (d .element .place ≡ place) × FoundAt limit s d) (gives-injective g) (placed, record { steps = there; reads = r })
+      subst (λ (d : Found). (d .element .place ≡ place) × FoundAt limit s d) (gives-injective g)
+      (placed, record { steps = there; reads = r })
 
   -- so what a lookup finds is had at its place
   pub had-there : (f : Found) → FoundAt limit s f → getAtUnder limit s (f .element .place) ≡ gives f

@@ -1,5 +1,5 @@
--- What follows for one turn of the writer from what the definition performs: the session behind it; a refused one changes nothing; the bytes
--- behind the output stay (demand 2; RULES.md, "Writer and joining").
+-- What follows for one turn of the writer from what the definition performs: the session behind it; a refused one changes nothing; the
+-- bytes behind the output stay (demand 2; RULES.md, "Writer and joining").
 use Prim.Native.Nat.{ℕ, zero, suc}
 use mathlib.Core.Path.{_≡_, refl, sym, ap, subst, _∙_}
 use mathlib.Core.Bool.{true, true≢false}
