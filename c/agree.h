@@ -1,4 +1,4 @@
-/* That fringewell_next is a step and a reading in one call. */
+/* That fringewell_next is a step and a reading in one call (RULES.md, "Admission and one step" and "Values"). */
 #ifndef AGREE_H
 #define AGREE_H
 

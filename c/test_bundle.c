@@ -1,4 +1,5 @@
-/* The writer that keeps its buffer: it makes the bytes that the calls on a state make, and does nothing more after its first refusal. */
+/* The writer that keeps its buffer: it makes the bytes that the calls on a state make, and does nothing more after its first refusal
+ * (RULES.md, "Writer and joining"). */
 #include "calls.h"
 #include "samples.h"
 

@@ -1,4 +1,4 @@
-/* What the header has of its own for reading: the typed getters, the words, and the version. */
+/* What the header has of its own for reading: the typed getters (RULES.md, "Values"), the words ("Numbers returned"), and the version. */
 #include "samples.h"
 #include "test.h"
 

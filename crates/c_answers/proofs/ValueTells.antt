@@ -17,7 +17,6 @@ use Rattle.bson.specs.Lookup.{Found, getUnder, getWithUnder, getAtUnder}
 use Rattle.bson.specs.Step.{Cursor, cursor, Element, past, Step, yield, end, stepUnder, after}
 use Rattle.bson.specs.Tags
 use Rattle.bson.specs.Value
-use Rattle.laws.proofs.AdvanceLaws.{at-place}
 use Rattle.laws.proofs.AnswerLaws.{never, gives-injective, unless-gives, then-gives, at-gives}
 use Rattle.laws.proofs.Common.{split}
 use Rattle.laws.proofs.FramingLaws.{in-front-is}
@@ -25,6 +24,7 @@ use Rattle.laws.proofs.GrammarLaws.{signed-unsigned}
 use Rattle.laws.proofs.GrammarBack.{bytes-are, le32-below, i32-ranged, i64-ranged}
 use Rattle.laws.proofs.LookupLaws.{FoundAt, get-finds, get-with-says, get-at-value, get-at-finds}
 use Rattle.laws.proofs.OpenLaws.{scope-says}
+use Rattle.laws.proofs.ReadLaws.{value-refused}
 use Rattle.laws.proofs.ReadRefusals.{NoZero, no-zero, no-zero-under, reads, typedReads, get-in, get-with-in, get-at-in, value-in}
 use Rattle.laws.proofs.StepLaws.{step-yields, yields-step}
 use Rattle.laws.proofs.TagLaws.{tagFor, type-tag}
@@ -281,10 +281,8 @@ module _ (s : List ℕ) (small : AreBytes s) (c : Cursor) where
   yielded-back e d (refuses n p) h = rw (h n p refl)
 
   step-back : (x : Answer Step) → NoZero x → stepOf (numbers x) ≡ x
-  unfolding valueOf
   step-back (gives (yield e)) h =
-      let there = at-place (valueIn s (e .tag) (e .value)) (e .place) in
-      ap (λ (d : Element). gives (yield d)) (yielded-back e (cursor (past e) false) (valueOf s e) there)
+      ap (λ (d : Element). gives (yield d)) (yielded-back e (cursor (past e) false) (valueOf s e) (value-refused s e))
   step-back (gives end) h = refl
   step-back (refuses number place) h = answer-refused number place end h
 

@@ -1,12 +1,13 @@
--- A reading at a place is the reading of what the step there yields (RULES.md, "Values").
+-- A reading at a place is the reading of what the step there yields, and a value is refused at its element's place (RULES.md, "Values").
 use Prim.Native.Nat.{ℕ}
 use mathlib.Core.Path.{_≡_, ap}
 use mathlib.Core.List.{List}
 use mathlib.Core.Bool.{false}
 use Rattle.bson.specs.Answer.{Answer, gives, refuses, then}
 use Rattle.bson.specs.Step.{cursor, Element, Step, yield, end, yielded, stepUnder}
-use Rattle.bson.specs.Value.{Value, valueOf, elementAtUnder, readAtUnder}
+use Rattle.bson.specs.Value.{Value, valueIn, valueOf, elementAtUnder, readAtUnder}
 use Rattle.bson.specs.Cstring.{Limit}
+use Rattle.laws.proofs.AdvanceLaws.{at-place}
 use Rattle.laws.proofs.AnswerLaws.{never, gives-injective, then-gives}
 
 pub read-step : (limit : Limit) (s : List ℕ) (place : ℕ) (e : Element) → stepUnder limit s (cursor place false) ≡ gives (yield e)
@@ -30,3 +31,7 @@ unfolding readAtUnder
 read-says limit s place v x =
     let (e, q, h) = then-gives (elementAtUnder _ s place) _ x in
     (e, element-at-says limit s place e q, h)
+
+pub value-refused : (s : List ℕ) (e : Element) (n p : ℕ) → valueOf s e ≡ refuses n p → p ≡ e .place
+unfolding valueOf
+value-refused s e = at-place (valueIn s (e .tag) (e .value)) (e .place)

@@ -10,14 +10,15 @@ use Rattle.bson.specs.Cstring.{Limit}
 use Rattle.bson.specs.Lookup as lookup
 use Rattle.bson.specs.Lookup.{Found, getUnder, getWithUnder, getAtUnder}
 use Rattle.bson.specs.Step.{Cursor, cursor, Element, Step, yield, end, stepUnder, after}
-use Rattle.bson.specs.Value.{Value, valueIn, valueOf, elementAtUnder}
-use Rattle.laws.proofs.AdvanceLaws.{at-place}
+use Rattle.bson.specs.Value.{Value, valueOf, elementAtUnder}
 use Rattle.laws.proofs.LookupLaws.{FoundAt, get-finds, get-with-says, had-there}
-use Rattle.laws.proofs.ReadRefusals.{NoZero, no-zero, no-zero-under, reads, typedReads, get-in, get-with-in, value-in}
+use Rattle.laws.proofs.ReadLaws.{value-refused}
+use Rattle.laws.proofs.ReadRefusals.{NoZero, no-zero, value-in}
 use Rattle.laws.proofs.StepLaws.{step-yields}
 use Rattle.c_answers.specs.Numbers.{found, stepped, yielded, stepRead}
 use Rattle.c_answers.specs.declared.ElementNumbers.{ElementNumbers}
 use Rattle.c_answers.specs.declared.ValueNumbers.{ValueNumbers}
+use Rattle.c_answers.proofs.ValueTells.{get-looks, get-with-looks}
 use Rattle.fringewell.specs.Left.{stepsUnder, readsUnder}
 use Rattle.promises.specs.OneValue.{asStep, asRead, readThere, OneValue}
 
@@ -31,13 +32,13 @@ module _ (limit : Limit) (s : List ℕ) where
 
   lookup-there : (key : List ℕ) (n : ValueNumbers) → n ≡ found (getUnder limit s key) → n .number ≡ 0 → n ≡ readThere limit s (n .place)
   lookup-there key n q =
-      rw q (found-there (getUnder limit s key) (no-zero-under reads limit refl (λ m. refl) (get-in limit s key)) (get-finds limit s key))
+      rw q (found-there (getUnder limit s key) (get-looks limit s key .numbered) (get-finds limit s key))
 
   lookup-typed-there : (key : List ℕ) (tag : ℕ) (n : ValueNumbers) → n ≡ found (getWithUnder limit s key tag) → n .number ≡ 0
       → n ≡ readThere limit s (n .place)
   lookup-typed-there key tag n q =
       rw q
-      (found-there (getWithUnder limit s key tag) (no-zero-under typedReads limit refl (λ m. refl) (get-with-in limit s key tag))
+      (found-there (getWithUnder limit s key tag) (get-with-looks limit s key tag .numbered)
       (λ f x. get-finds limit s key f (get-with-says limit s key tag f x .0)))
 
   -- ---- steps that read
@@ -48,9 +49,7 @@ module _ (limit : Limit) (s : List ℕ) where
   yielded-step e (refuses n p) d z h = rw (z, h n p refl)
 
   steps-by : (c : Cursor) (x : Answer Step) → asStep (stepRead s x (after c x)) ≡ stepped x (after c x)
-  unfolding valueOf
-  steps-by c (gives (yield e)) =
-      yielded-step e (valueOf s e) (after c (gives (yield e))) refl (at-place (valueIn s (e .tag) (e .value)) (e .place))
+  steps-by c (gives (yield e)) = yielded-step e (valueOf s e) (after c (gives (yield e))) refl (value-refused s e)
   steps-by c (gives end) = refl
   steps-by c (refuses number place) = refl
 
@@ -78,10 +77,9 @@ module _ (limit : Limit) (s : List ℕ) where
 
   reads-by : (c : Cursor) (x : Answer Step) → stepUnder limit s c ≡ x → stepRead s x (after c x) .ended ≡ false
       → readThere limit s (stepRead s x (after c x) .value .place) ≡ asRead (stepRead s x (after c x) .value)
-  unfolding valueOf
   reads-by c (gives (yield e)) x z =
       let d = after c (gives (yield e)) in
-      ap (readThere limit s) (place-there e (valueOf s e) d (at-place (valueIn s (e .tag) (e .value)) (e .place)))
+      ap (readThere limit s) (place-there e (valueOf s e) d (value-refused s e))
       ∙ ap found (element-there c e x)
       ∙ value-there e (valueOf s e) d refl (no-zero refl (value-in s e))
   reads-by c (gives end) x z = absurd (true≢false z)
