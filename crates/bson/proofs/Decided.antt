@@ -14,7 +14,7 @@ use Rattle.bson.specs.Framing.{patternOptionsUnder, regexSizeUnder, fram
 use Rattle.bson.specs.Step.{admitted, elementUnder, stepUnder, keyAtUnder, iterateFor, iterateUnder}
 use Rattle.bson.specs.Value.{bool, timestampOf, text, declaresData, binaryValue, scopeValue, content, valueIn, valueOf}
 use Rattle.bson.specs.Value.{elementAtUnder, readAtUnder, readWithUnder, partsOf, partAtUnder}
-use Rattle.bson.specs.Lookup.{found, getUnder, getBytesUnder, getWithUnder, getPartUnder, isEmpty}
+use Rattle.bson.specs.Lookup.{found, findUnder, getUnder, getBytesUnder, getWithUnder, getPartUnder, isEmpty}
 use Rattle.bson.specs.Level.{opening}
 use Rattle.bson.specs.Check.{visit, opened, walkFor, walkUnder, checkUnder}
 use Rattle.bson.specs.Decided.{stepPoints, readingPoints, lookupPoints, partPoints, checkPoints, scopePoints, depthPoints}
@@ -25,7 +25,7 @@ pub decided-hold : Hold stepPoints × Hold readingPoints × Hold lookupPoints ×
 unfolding le32 le64 signed i32 i64 bytes rows utf8 zeroText cstringUnder tags rowOf lengthField fits zeroEnded stringSize pointerSize
     documentSize binarySize scopeSize patternOptionsUnder regexSizeUnder framedUnder valueSizeUnder admitted elementUnder stepUnder
     keyAtUnder iterateFor iterateUnder bool timestampOf text binaryValue scopeValue content valueIn valueOf elementAtUnder readAtUnder
-    readWithUnder partsOf partAtUnder found getUnder getBytesUnder getWithUnder getPartUnder isEmpty opening visit opened
+    readWithUnder partsOf partAtUnder found findUnder getUnder getBytesUnder getWithUnder getPartUnder isEmpty opening visit opened
     walkFor walkUnder checkUnder stepPoints readingPoints lookupPoints partPoints checkPoints scopePoints depthPoints
 decided-hold = (refl, refl, refl, refl, refl, refl, refl)
 

@@ -9,6 +9,7 @@ pub mod LookupPoints
 pub mod StrictPoints
 pub mod Report
 pub mod ReachPoints
+pub mod PathPoints
 pub mod GrammarPoints
 pub mod WriterPoints
 pub mod JoinPoints

@@ -9,7 +9,7 @@ use Rattle.bson.specs.Framing.{framedUnder, valueSizeUnder}
 use Rattle.bson.specs.Step.{admitted, elementUnder, stepUnder, keyAtUnder, iterateFor, iterateUnder}
 use Rattle.bson.specs.Value.{text, scopeValue, content, valueIn, valueOf, elementAtUnder, readAtUnder, readWithUnder, partsOf}
 use Rattle.bson.specs.Value.{partAtUnder}
-use Rattle.bson.specs.Lookup.{found, getUnder, getBytesUnder, getWithUnder, getPartUnder}
+use Rattle.bson.specs.Lookup.{found, findUnder, getUnder, getBytesUnder, getWithUnder, getPartUnder}
 use Rattle.bson.specs.Decimal.{digits, widthFor, width, decimal}
 use Rattle.bson.specs.ArrayKey.{goodArrayKey}
 use Rattle.bson.specs.Level.{opening}
@@ -20,7 +20,7 @@ use Rattle.bson.specs.LimitPoints.{keyPoints, regexPoints, nestedPoints,
 pub limit-points-hold : Hold keyPoints × Hold regexPoints × Hold nestedPoints × Hold callPoints × Hold unlimitedPoints
 unfolding le32 bytes rows utf8 zeroText cstringUnder tags rowOf lengthField fits zeroEnded stringSize documentSize scopeSize
     patternOptionsUnder regexSizeUnder framedUnder valueSizeUnder admitted elementUnder stepUnder keyAtUnder iterateFor iterateUnder text
-    scopeValue content valueIn valueOf elementAtUnder readAtUnder readWithUnder partsOf partAtUnder found getUnder getBytesUnder
+    scopeValue content valueIn valueOf elementAtUnder readAtUnder readWithUnder partsOf partAtUnder found findUnder getUnder getBytesUnder
     getWithUnder getPartUnder digits widthFor width decimal goodArrayKey opening visit opened walkFor walkUnder checkUnder keyPoints
     regexPoints nestedPoints callPoints unlimitedPoints
 limit-points-hold = (refl, refl, refl, refl, refl)

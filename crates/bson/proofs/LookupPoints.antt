@@ -8,7 +8,7 @@ use Rattle.bson.specs.Framing.{lengthField, fits, zeroEnded, stringSize,
 use Rattle.bson.specs.Framing.{valueSizeUnder}
 use Rattle.bson.specs.Step.{admitted, elementUnder, stepUnder, iterateFor, iterateUnder}
 use Rattle.bson.specs.Value.{bool, text, content, valueIn, valueOf, partsOf}
-use Rattle.bson.specs.Lookup.{found, getUnder, getBytesUnder, getWithUnder, getPartUnder}
+use Rattle.bson.specs.Lookup.{found, findUnder, getUnder, getBytesUnder, getWithUnder, getPartUnder}
 use Rattle.bson.specs.Decided.{Hold}
 use Rattle.bson.specs.LookupPoints.{foundPoints, withPoints, damagePoints, handedPoints, typedPoints}
 
@@ -16,5 +16,5 @@ pub lookup-points-hold : Hold (foundPoints unlimited) × Hold (withPoints unlimi
     × Hold damagePoints × Hold typedPoints × Hold (foundPoints (most 7)) × Hold (withPoints (most 7)) × Hold (handedPoints (most 7))
 unfolding le32 signed i32 bytes rows utf8 zeroText cstringUnder tags rowOf lengthField fits zeroEnded stringSize patternOptionsUnder
     regexSizeUnder framedUnder valueSizeUnder admitted elementUnder stepUnder iterateFor iterateUnder bool text content valueIn valueOf
-    partsOf found getUnder getBytesUnder getWithUnder getPartUnder foundPoints withPoints damagePoints handedPoints typedPoints
+    partsOf found findUnder getUnder getBytesUnder getWithUnder getPartUnder foundPoints withPoints damagePoints handedPoints typedPoints
 lookup-points-hold = (refl, refl, refl, refl, refl, refl, refl, refl)

@@ -7,6 +7,7 @@ pub mod Framing
 pub mod Step
 pub mod Value
 pub mod Lookup
+pub mod Path
 pub mod ArrayKey
 pub mod Level
 pub mod Check
@@ -28,6 +29,7 @@ pub mod FramingPoints
 pub mod LookupPoints
 pub mod StrictPoints
 pub mod ReachPoints
+pub mod PathPoints
 pub mod GrammarPoints
 pub mod WriterPoints
 pub mod JoinPoints

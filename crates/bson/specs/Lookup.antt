@@ -18,20 +18,23 @@ pub record Found : Type 0 where
 unfoldable pub found : List ℕ → Element → Answer Found
 found s e = then (valueOf s e) λ v. gives (record { element = e; value = v })
 
--- "goes by equal bytes, stops at the first match and reads it, returning the value's refusal if there is one;
--- damage behind it is not seen, damage before it is returned; no match is 16". A key that is not UTF-8 "matches nothing"
--- (`other-key-unmatched`)
-abbrev pub first : List ℕ → List ℕ → Iteration → Answer Found
+-- "goes by equal bytes, stops at the first match"; "damage behind it is not seen, damage before it is returned; no match is 16".
+-- A key that is not UTF-8 "matches nothing" (`other-key-unmatched`)
+abbrev pub first : List ℕ → List ℕ → Iteration → Answer Element
 first s key ended = refuses 16 (terminator s)
 first s key (broken n p) = refuses n p
 first s key (more e rest) =
     cond (same key (bytes s (e .key)))
-    (found s e)
+    (gives e)
     (first s key rest)
 
 -- "iteration starts at 4"
+unfoldable pub findUnder : Limit → List ℕ → List ℕ → Answer Element
+findUnder limit s key = first s key (iterateUnder limit s 4)
+
+-- "and reads it, returning the value's refusal if there is one"
 unfoldable pub getUnder : Limit → List ℕ → List ℕ → Answer Found
-getUnder limit s key = first s key (iterateUnder limit s 4)
+getUnder limit s key = then (findUnder limit s key) (found s)
 
 -- "lookup hands back a part of the document, never of the key: the value's framed bytes"; the twin is `get`
 unfoldable pub getBytesUnder : Limit → List ℕ → List ℕ → List ℕ

@@ -7,31 +7,13 @@ use mathlib.Core.Bool.{false}
 use Rattle.bson.specs.Answer.{gives}
 use Rattle.bson.specs.Bytes.{Part, bytes}
 use Rattle.bson.specs.Step.{terminator, cursor, Element, past, yield, end, step}
-use Rattle.bson.specs.Value.{boolean, int32, int64, dateTime, double, timestamp, objectId, decimal128, string, code, symbol, null}
-use Rattle.bson.specs.Value.{undefined, minKey, maxKey, dbPointer, binary, regex, Leaf, Value, readAt}
+use Rattle.bson.specs.Value.{mapped, Leaf, Value, readAt}
 use Rattle.bson.specs.Value as value
 use Rattle.bson.specs.Grammar.{Item, row, Nest, embedded, scope, document, array, nestTag, Elements, none, leaf, nest}
 
 -- the item that a leaf read from a slice holds: its parts' bytes
 abbrev pub held : List ℕ → Leaf → Item
-held s (double bits) = double bits
-held s (string t) = string (bytes s t)
-held s (binary subtype d) = binary subtype (bytes s d)
-held s undefined = undefined
-held s (objectId id) = objectId (bytes s id)
-held s (boolean b) = boolean b
-held s (dateTime n) = dateTime n
-held s null = null
-held s (regex p o) = regex (bytes s p) (bytes s o)
-held s (dbPointer t id) = dbPointer (bytes s t) (bytes s id)
-held s (code t) = code (bytes s t)
-held s (symbol t) = symbol (bytes s t)
-held s (int32 n) = int32 n
-held s (timestamp i t) = timestamp i t
-held s (int64 n) = int64 n
-held s (decimal128 d) = decimal128 (bytes s d)
-held s minKey = minKey
-held s maxKey = maxKey
+held s = mapped (bytes s)
 
 -- what a value read from a slice holds: an item, or a nest, whose document lies in a part
 pub data Holding : Type 0 where

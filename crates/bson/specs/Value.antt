@@ -29,6 +29,27 @@ pub data Scalar (B : Type 0) : Type 0 where
   binary : (subtype : ℕ) (contents : B) → Scalar B
   regex : (pattern options : B) → Scalar B
 
+-- the same with something else in the place of its bytes
+abbrev pub mapped : {B C : Type 0} → (B → C) → Scalar B → Scalar C
+mapped f (boolean b) = boolean b
+mapped f (int32 n) = int32 n
+mapped f (int64 n) = int64 n
+mapped f (dateTime n) = dateTime n
+mapped f (double bits) = double bits
+mapped f (timestamp i n) = timestamp i n
+mapped f (objectId id) = objectId (f id)
+mapped f (decimal128 d) = decimal128 (f d)
+mapped f (string t) = string (f t)
+mapped f (code t) = code (f t)
+mapped f (symbol t) = symbol (f t)
+mapped f null = null
+mapped f undefined = undefined
+mapped f minKey = minKey
+mapped f maxKey = maxKey
+mapped f (dbPointer t id) = dbPointer (f t) (f id)
+mapped f (binary subtype d) = binary subtype (f d)
+mapped f (regex p o) = regex (f p) (f o)
+
 -- as it is read: bytes as parts of the slice
 abbrev pub Leaf : Type 0
 Leaf = Scalar Part

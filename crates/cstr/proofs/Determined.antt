@@ -8,6 +8,8 @@ use Rattle.cstr.proofs.read_cstring.Reads as read-cstring-reads
 use Rattle.cstr.proofs.read_cstring.Kinds as read-cstring-kinds
 use Rattle.cstr.proofs.read_cstring_with_max_len.Reads as read-max-reads
 use Rattle.cstr.proofs.read_cstring_with_max_len.Kinds as read-max-kinds
+use Rattle.cstr.proofs.first_zero.Reads as first-zero-reads
+use Rattle.cstr.proofs.first_zero.Kinds as first-zero-kinds
 use Rattle.cstr.proofs.most_of.Reads as most-of-reads
 use Rattle.cstr.proofs.most_of.Kinds as most-of-kinds
 use Rattle.cstr.proofs.is_valid_cstr.Reads as is-valid-cstr-reads
@@ -20,6 +22,9 @@ read-cstring-determined κs a r₁ r₂ s₁ s₂ p q = length-injective r₁ r�
 
 pub read-cstring-with-max-len-determined : (κs : Lfts 1) (a : Dens κs read-max-kinds.ps) → Determined (read-max-reads.Post κs a)
 read-cstring-with-max-len-determined κs a r₁ r₂ s₁ s₂ p q = length-injective r₁ r₂ (p ∙ sym q)
+
+pub first-zero-determined : (κs : Lfts 1) (a : Dens κs first-zero-kinds.ps) → Determined (first-zero-reads.Post κs a)
+first-zero-determined κs a r₁ r₂ s₁ s₂ p q = p ∙ sym q
 
 pub most-of-determined : (κs : Lfts 0) (a : Dens κs most-of-kinds.ps) → Determined (most-of-reads.Post κs a)
 most-of-determined κs a r₁ r₂ s₁ s₂ p q = p ∙ sym q

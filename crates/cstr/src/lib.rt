@@ -74,7 +74,7 @@ fn plain_end(v: &[u8]) -> usize
 }
 
 // The offset of the first zero byte, or the length where there is none.
-fn first_zero(v: &[u8]) -> usize
+pub fn first_zero(v: &[u8]) -> usize
     ensures { λ r. ⌜ r ≡ firstZero (now (v .entry)) ⌝ }
 {
     let mut i = 0;

@@ -5,20 +5,29 @@ use borrow.Fn.Kinds.{Dens}
 use denote.Ref.{now}
 use Rattle.bson.specs.Answer.{Answer}
 use Rattle.bson.specs.Lookup as paper
+use Rattle.bson.specs.Step.{Element}
 use Rattle.laws.proofs.Determined.{Determined, DeterminedPart, injective-by, unsaidAt}
 use Rattle.iter.proofs.Determined.{unsaidElement}
 use Rattle.value.proofs.Determined.{unsaidValue, value-again}
-use Rattle.document.specs.Said.{saidAdmission, saidEmpty, said}
+use Rattle.document.specs.Said.{saidAdmission, saidEmpty, saidHit, said}
 use Rattle.document.specs.declared.Admission.{Admission}
 use Rattle.document.specs.declared.Admission.the-variants as admission
 use Rattle.document.specs.declared.Empty.{Empty}
 use Rattle.document.specs.declared.Empty.the-variants as empty
+use Rattle.document.specs.declared.Hit.{Hit}
+use Rattle.document.specs.declared.Hit.the-variants as hit
 use Rattle.document.specs.declared.Found.{Found}
 use Rattle.document.specs.declared.Found.the-variants.{Is, Refused}
 use Rattle.document.proofs.from_bytes.Reads as from-bytes-reads
 use Rattle.document.proofs.from_bytes.Kinds as from-bytes-kinds
 use Rattle.document.proofs.is_empty.Reads as is-empty-reads
 use Rattle.document.proofs.is_empty.Kinds as is-empty-kinds
+use Rattle.document.proofs.find.Reads as find-reads
+use Rattle.document.proofs.find.Kinds as find-kinds
+use Rattle.document.proofs.read_element.Reads as read-element-reads
+use Rattle.document.proofs.read_element.Kinds as read-element-kinds
+use Rattle.document.proofs.read_element_with.Reads as read-element-with-reads
+use Rattle.document.proofs.read_element_with.Kinds as read-element-with-kinds
 use Rattle.document.proofs.get_element_under.Reads as get-element-under-reads
 use Rattle.document.proofs.get_element_under.Kinds as get-element-under-kinds
 use Rattle.document.proofs.get_element.Reads as get-element-reads
@@ -55,12 +64,28 @@ empty-again (empty.Refused number place) = refl
 pub is-empty-determined : (κs : Lfts 1) (a : Dens κs is-empty-kinds.ps) → Determined (is-empty-reads.Post κs a)
 is-empty-determined κs a r₁ r₂ s₁ s₂ p q = injective-by saidEmpty (unsaidAt empty.Is empty.Refused) empty-again r₁ r₂ (p ∙ sym q)
 
-abbrev unsaidFound : Answer paper.Found → Found
+abbrev unsaidHit : Answer Element → Hit
+unsaidHit = unsaidAt (λ e. hit.Is (unsaidElement e)) hit.Refused
+
+hit-again : (r : Hit) → unsaidHit (saidHit r) ≡ r
+hit-again (hit.Is e) = refl
+hit-again (hit.Refused number place) = refl
+
+pub find-determined : (κs : Lfts 2) (a : Dens κs find-kinds.ps) → Determined (find-reads.Post κs a)
+find-determined κs a r₁ r₂ s₁ s₂ p q = injective-by saidHit unsaidHit hit-again r₁ r₂ (p ∙ sym q)
+
+abbrev pub unsaidFound : Answer paper.Found → Found
 unsaidFound = unsaidAt (λ f. Is (unsaidElement (f .element)) (unsaidValue (f .value))) Refused
 
-found-again : (r : Found) → unsaidFound (said r) ≡ r
+pub found-again : (r : Found) → unsaidFound (said r) ≡ r
 found-again (Is e v) = rw (value-again v)
 found-again (Refused number place) = refl
+
+pub read-element-determined : (κs : Lfts 1) (a : Dens κs read-element-kinds.ps) → Determined (read-element-reads.Post κs a)
+read-element-determined κs a r₁ r₂ s₁ s₂ p q = injective-by said unsaidFound found-again r₁ r₂ (p ∙ sym q)
+
+pub read-element-with-determined : (κs : Lfts 1) (a : Dens κs read-element-with-kinds.ps) → Determined (read-element-with-reads.Post κs a)
+read-element-with-determined κs a r₁ r₂ s₁ s₂ p q = injective-by said unsaidFound found-again r₁ r₂ (p ∙ sym q)
 
 pub get-element-under-determined : (κs : Lfts 2) (a : Dens κs get-element-under-kinds.ps) → Determined (get-element-under-reads.Post κs a)
 get-element-under-determined κs a r₁ r₂ s₁ s₂ p q = injective-by said unsaidFound found-again r₁ r₂ (p ∙ sym q)

@@ -1,9 +1,9 @@
 -- What each case of an answer says on paper (RULES.md, "Values").
 use Prim.Native.Nat.{ℕ}
-use mathlib.Core.List.{List}
 use mathlib.Core.Bool.{Bool}
 use Rattle.bson.specs.Answer.{Answer, gives, refuses}
 use Rattle.bson.specs.Lookup as paper
+use Rattle.bson.specs.Step as step
 use Rattle.iter.specs.Said.{saidElement}
 use Rattle.value.specs.Said.{saidValue}
 use Rattle.document.specs.declared.Admission.{Admission}
@@ -23,11 +23,10 @@ abbrev pub saidEmpty : Empty → Answer Bool
 saidEmpty (empty.Is b) = gives b
 saidEmpty (empty.Refused number place) = refuses number place
 
+abbrev pub saidHit : Hit → Answer step.Element
+saidHit (hit.Is e) = gives (saidElement e)
+saidHit (hit.Refused number place) = refuses number place
+
 abbrev pub said : Found → Answer paper.Found
 said (Is e v) = gives (record { element = saidElement e; value = saidValue v })
 said (Refused number place) = refuses number place
-
--- what reading the element whose key matched answers
-abbrev pub reads : List ℕ → Hit → Answer paper.Found
-reads s (hit.Is e) = paper.found s (saidElement e)
-reads s (hit.Refused number place) = refuses number place

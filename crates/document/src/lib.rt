@@ -2,13 +2,13 @@
 ghost use mathlib.Core.Path.{_≡_};
 ghost use Rattle.bson.specs.Answer.{then};
 ghost use Rattle.bson.specs.Step.{admitted};
-ghost use Rattle.bson.specs.Lookup.{found as foundIn, getUnder, getBytesUnder, getWithUnder, getPartUnder, get as lookup, getBytes};
-ghost use Rattle.bson.specs.Lookup.{getAtUnder, getWith, getAt, getPart, isEmpty};
+ghost use Rattle.bson.specs.Lookup.{found as foundIn, findUnder, getUnder, getBytesUnder, getWithUnder, getPartUnder, get as lookup};
+ghost use Rattle.bson.specs.Lookup.{getBytes, getAtUnder, getWith, getAt, getPart, isEmpty};
 ghost use Rattle.bson.specs.Value.{ofTag};
 ghost use Rattle.cstr.specs.Said.{limitOf};
 ghost use Rattle.iter.specs.Said.{saidElement};
 ghost use Rattle.reading.specs.Said.{saidWhich};
-ghost use Rattle.document.specs.Said.{saidAdmission, saidEmpty, said, reads};
+ghost use Rattle.document.specs.Said.{saidAdmission, saidEmpty, saidHit, said};
 use iter::Element;
 use iter::Sizes;
 use part::Length;
@@ -56,13 +56,13 @@ pub fn is_empty(s: &[u8]) -> Empty
 }
 
 // The element whose key matched, not read yet, or the number and the place of the refusal.
-enum Hit {
+pub enum Hit {
     Is(Element),
     Refused { number: u8, place: usize },
 }
 
 // The element whose key matched, with its value or the value's refusal.
-fn read_element(s: &[u8], element: Element) -> Found
+pub fn read_element(s: &[u8], element: Element) -> Found
     ensures { λ r. ⌜ said r ≡ foundIn (now (s .entry)) (saidElement element) ⌝ }
 {
     match reading::value_of(s, element) {
@@ -72,7 +72,7 @@ fn read_element(s: &[u8], element: Element) -> Found
 }
 
 // The same, of a value that must have this tag: 17 behind its own refusals.
-fn read_element_with(s: &[u8], element: Element, tag: u8) -> Found
+pub fn read_element_with(s: &[u8], element: Element, tag: u8) -> Found
     ensures { λ r. ⌜ said r ≡ then (foundIn (now (s .entry)) (saidElement element)) (λ f. ofTag (f .element) tag f) ⌝ }
 {
     match read_element(s, element) {
@@ -88,8 +88,8 @@ fn read_element_with(s: &[u8], element: Element, tag: u8) -> Found
 }
 
 // The first element whose key has these bytes, not read yet: the refusals of the steps before it, or 16 at the terminator.
-fn find(s: &[u8], key: &[u8], limit: usize) -> Hit
-    ensures { λ r. ⌜ reads (now (s .entry)) r ≡ getUnder (limitOf limit) (now (s .entry)) (now (key .entry)) ⌝ }
+pub fn find(s: &[u8], key: &[u8], limit: usize) -> Hit
+    ensures { λ r. ⌜ saidHit r ≡ findUnder (limitOf limit) (now (s .entry)) (now (key .entry)) ⌝ }
 {
     // a part made here is handed on as two words, and not copied as one from the caller's two
     let whole = &s[0..];

@@ -7,8 +7,10 @@ use mathlib.Core.Bool.{Bool, true, false, cond, _&&_}
 use mathlib.Core.Logic.{_↔_}
 use native.Mathlib.Omega.{arith}
 use lib.Dec.{leb, eqb}
+use lib.ListN.{length, getD}
 use borrow.Author.Tests.{le-leb, eq-eqb, eqb-true}
 use Rattle.bson.specs.Answer.{Answer, gives, refuses, then, at, unless}
+use Rattle.bson.specs.Bytes.{declares}
 use Rattle.bson.specs.Cstring.{Limit}
 use Rattle.bson.specs.Step.{terminator, admitted, Cursor, cursor, Element, past, elementUnder, yield, end, yieldingUnder, stepUnder, after}
 use Rattle.laws.proofs.AnswerLaws.{never}
@@ -75,6 +77,30 @@ module _ (limit : Limit) (s : List ℕ) (m : ℕ) (a : admitted s ≡ gives m) w
   refused-place offset n p q =
       at-place (unless (begins s offset) 4 (cond (eqb offset (terminator s)) (gives end) (yieldingUnder limit s offset))) offset n p
       (rw a at q)
+
+-- ---- the place of a refusal
+
+unless-at-0 : {A : Type 0} (b : Bool) (k : ℕ) (x : Answer A) (n p : ℕ) → (x ≡ refuses n p → p ≡ 0) → unless b k x ≡ refuses n p → p ≡ 0
+unless-at-0 true k x n p f q = f q
+unless-at-0 false k x n p f q = cc
+
+admission-at-0 : (s : List ℕ) (n p : ℕ) → admitted s ≡ refuses n p → p ≡ 0
+unfolding admitted
+admission-at-0 s n p =
+    unless-at-0 (leb 5 (length s)) 1 _ n p
+    (unless-at-0 (declares s (length s)) 2 _ n p
+    (unless-at-0 (eqb (getD s (terminator s) 0) 0) 3 _ n p (λ q. never (sym q))))
+
+-- the place of a step's refusal does not lie behind its offset
+pub refused-before : (limit : Limit) (s : List ℕ) (offset n p : ℕ) → stepUnder limit s (cursor offset false) ≡ refuses n p → p ≤ offset
+refused-before limit s offset n p q = of (admitted s) refl
+  where
+    of : (x : Answer ℕ) → admitted s ≡ x → p ≤ offset
+    of (gives m) a = omega (arith, refused-place limit s m a offset n p q)
+    of (refuses k r) a =
+        let u = sym (step-unadmitted limit s (cursor offset false) k r a) ∙ q in
+        let i : r ≡ p = cc in
+        omega (arith, admission-at-0 s k r a)
 
 -- ---- where the next step begins
 

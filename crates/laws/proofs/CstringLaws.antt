@@ -35,6 +35,10 @@ before-least test (b ∷ v) zero h e = rw e (omega arith)
 before-least test (b ∷ v) (suc i) h e =
     split (test b) (λ t. rw t (omega arith)) (λ t. let k = before-least test v i (le-of-suc-le-suc h) e in rw t (omega arith))
 
+pub before-most : (test : ℕ → Bool) (v : List ℕ) → before test v ≤ length v
+before-most test [] = omega arith
+before-most test (b ∷ v) = split (test b) (λ t. rw t (omega arith)) (λ t. let k = before-most test v in rw t (omega arith))
+
 -- the bytes before the first that passes hold none
 before-take : (test : ℕ → Bool) (v : List ℕ) → before test (take (before test v) v) ≡ before test v
 before-take test [] = refl

@@ -111,7 +111,7 @@ pattern-options-of p o rest h k =
 -- ---- what is framed by a length
 
 module _ (v : List ℕ) where
-  length-field-of : (present least n : ℕ) → le32 v ≡ n → present ≤ length v → least ≤ n → n < 2147483648
+  pub length-field-of : (present least n : ℕ) → le32 v ≡ n → present ≤ length v → least ≤ n → n < 2147483648
       → lengthField present least v ≡ gives n
   unfolding lengthField
   length-field-of present least n e p l h = rw (e, le-leb _ _ p, le-leb _ _ l, lt-ltb _ _ h)
@@ -123,7 +123,7 @@ module _ (v : List ℕ) where
   pub in-front-of : {A : Type 0} (size : ℕ) (number : List ℕ → A) → size ≤ length v → inFront size number v ≡ gives (number v)
   in-front-of size number h = rw (fits-of size h)
 
-  zero-ended-of : (size : ℕ) → size ≤ length v → getD v (size - 1) 0 ≡ 0 → zeroEnded size v ≡ gives size
+  pub zero-ended-of : (size : ℕ) → size ≤ length v → getD v (size - 1) 0 ≡ 0 → zeroEnded size v ≡ gives size
   unfolding zeroEnded
   zero-ended-of size h z = rw (fits-of size h, z)
 

@@ -9,6 +9,10 @@ pub mod LookupLaws
 pub mod OpenLaws
 pub mod ReadLaws
 pub mod PartLaws
+pub mod FrontLaws
+pub mod MovedLaws
+pub mod PathLaws
+pub mod AlongLaws
 pub mod StepLaws
 pub mod LimitLaws
 pub mod AdvanceLaws

@@ -2,7 +2,7 @@
 -- first, so does every call (RULES.md, request 2).
 use Prim.Native.Nat.{ℕ, zero, suc, _+_, _≤_}
 use mathlib.Core.Path.{_≡_, refl}
-use mathlib.Core.List.{List}
+use mathlib.Core.List.{List, [], _∷_}
 use mathlib.Core.Bool.{Bool, true, false, cond, _&&_}
 use native.Mathlib.Omega.{arith}
 use lib.Dec.{leb, ltb, eqb}
@@ -15,7 +15,8 @@ use Rattle.bson.specs.Framing.{patternOptionsUnder, regexSizeUnder, framedUnder
 use Rattle.bson.specs.Step.{terminator, admitted, Cursor, cursor, Element, past, elementUnder, Step, yield, end, stepUnder, Iteration}
 use Rattle.bson.specs.Step.{ended, broken, more, onward, iterateFor, iterateUnder}
 use Rattle.bson.specs.Value.{elementAtUnder, readAtUnder, readWithUnder}
-use Rattle.bson.specs.Lookup.{found, first, getUnder, getWithUnder}
+use Rattle.bson.specs.Lookup.{Found, first, findUnder, getUnder, getWithUnder}
+use Rattle.bson.specs.Path.{keysOf, moved, entered, lookAlong, getPathUnder, getPathWithUnder}
 use Rattle.bson.specs.Level.{Opening, closed, opens, Level, outermost}
 use Rattle.bson.specs.Check.{Walk, visit, inside, opened, along, walkFor, walkUnder, checkUnder}
 use Rattle.laws.proofs.Common.{split}
@@ -50,6 +51,10 @@ module _ {P : Type 0} {A : Type 0} where
   at-turns p stays = stays
   at-turns p (turns h) = turns h
 
+moved-turns : {P : Type 0} (by : ℕ) {x y : Answer Found} → Turns P x y → Turns P (moved by x) (moved by y)
+moved-turns by stays = stays
+moved-turns by (turns h) = turns h
+
 -- ---- an iteration broken off by 22
 
 -- the first iteration is the second or, where P allows it, breaks off by 22 after elements of it
@@ -70,7 +75,7 @@ onward-turns (turns p) h = breaks p
 
 first-turns : {P : Type 0} (s key : List ℕ) {i j : Iteration} → Breaks P i j → Turns P (first s key i) (first s key j)
 first-turns s key goes-on = stays
-first-turns s key (further e h) = cond-turns (same key (bytes s (e .key))) (found s e) (first-turns s key h)
+first-turns s key (further e h) = cond-turns (same key (bytes s (e .key))) (gives e) (first-turns s key h)
 first-turns s key (breaks p) = turns p
 
 -- ---- walks of two limits
@@ -167,12 +172,31 @@ module _ (P : Type 0) (a b : Limit) (bound : ℕ)
   iterated s i = iterate-breaks (suc (length s)) s 4 i
 
   pub get-turns : (s key : List ℕ) → length s ≤ bound → Turns P (getUnder a s key) (getUnder b s key)
-  unfolding getUnder
-  get-turns s key i = first-turns s key (iterated s i)
+  unfolding getUnder findUnder
+  get-turns s key i = then-turns (first-turns s key (iterated s i)) (λ e. stays)
 
   pub get-with-turns : (s key : List ℕ) (tag : ℕ) → length s ≤ bound → Turns P (getWithUnder a s key tag) (getWithUnder b s key tag)
   unfolding getWithUnder
   get-with-turns s key tag i = then-turns (get-turns s key i) (λ f. stays)
+
+  look-along-turns : (s key : List ℕ) (keys : List (List ℕ)) → length s ≤ bound
+      → Turns P (lookAlong a s key keys) (lookAlong b s key keys)
+  look-along-turns s key [] i = get-turns s key i
+  look-along-turns s key (next ∷ keys) i =
+      then-turns (get-turns s key i) λ f.
+      then-stays (at (f .element .place) (entered (f .value))) λ p.
+      moved-turns (p .offset) (look-along-turns (bytes s p) next keys (omega (arith, part-shorter s p)))
+
+  pub path-turns : (s path : List ℕ) → length s ≤ bound → Turns P (getPathUnder a s path) (getPathUnder b s path)
+  unfolding getPathUnder
+  path-turns s path i =
+      let (key, keys) = keysOf path in
+      unless-turns (leb (length keys) 200) 21 (look-along-turns s key keys i)
+
+  pub path-with-turns : (s path : List ℕ) (tag : ℕ) → length s ≤ bound
+      → Turns P (getPathWithUnder a s path tag) (getPathWithUnder b s path tag)
+  unfolding getPathWithUnder
+  path-with-turns s path tag i = then-turns (path-turns s path i) (λ f. stays)
 
   walk-turns : (n : ℕ) (strict : Bool) (s : List ℕ) (l : Level) → length s ≤ bound
       → Turns P (walkFor a n strict s l) (walkFor b n strict s l)
@@ -217,6 +241,12 @@ module _ (m n : ℕ) (s : List ℕ) (i : length s ≤ m) (j : length s ≤ n) wh
 
   pub get-with-beyond : (key : List ℕ) (tag : ℕ) → getWithUnder (most m) s key tag ≡ getWithUnder (most n) s key tag
   get-with-beyond key tag = alike (get-with-turns ⊥ _ _ (length s) texts-beyond s key tag (omega arith))
+
+  pub path-beyond : (path : List ℕ) → getPathUnder (most m) s path ≡ getPathUnder (most n) s path
+  path-beyond path = alike (path-turns ⊥ _ _ (length s) texts-beyond s path (omega arith))
+
+  pub path-with-beyond : (path : List ℕ) (tag : ℕ) → getPathWithUnder (most m) s path tag ≡ getPathWithUnder (most n) s path tag
+  path-with-beyond path tag = alike (path-with-turns ⊥ _ _ (length s) texts-beyond s path tag (omega arith))
 
   pub check-beyond : (strict : Bool) → checkUnder (most m) strict s ≡ checkUnder (most n) strict s
   check-beyond strict = alike (check-turns ⊥ _ _ (length s) texts-beyond strict s (omega arith))

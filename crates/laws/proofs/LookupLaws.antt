@@ -4,6 +4,7 @@ use Prim.Native.Nat.{ℕ, zero, suc, _+_, _≤_}
 use mathlib.Core.Path.{_≡_, refl, sym, ap, subst, _∙_}
 use mathlib.Core.List.{List}
 use mathlib.Core.Bool.{Bool, true, false}
+use native.Mathlib.Omega.{arith}
 use lib.IntN.{ℤ}
 use lib.ListN.{length}
 use lib.Dec.{leb, eqb}
@@ -13,19 +14,19 @@ use Rattle.bson.specs.Bytes.{le64, i32, i64, Part, bytes, same}
 use Rattle.bson.specs.Cstring.{Limit}
 use Rattle.bson.specs.Tags.{ElementType, Boolean, Int32, Double, Int64, DateTime, Timestamp, tags, rowOf, typeOf}
 use Rattle.bson.specs.Framing.{inFront}
-use Rattle.bson.specs.Step.{cursor, Element, past, Step, yield, end, stepUnder, Iteration, onward, iterateFor, iterateUnder}
+use Rattle.bson.specs.Step.{terminator, cursor, Element, past, Step, yield, end, stepUnder, Iteration, onward, iterateFor, iterateUnder}
 use Rattle.bson.specs.Value.{Leaf, leaf, boolean, int32, int64, dateTime, double, timestamp, asLeaf, bool, timestampOf, content, valueIn}
-use Rattle.bson.specs.Value.{Value, valueOf, elementAtUnder, readAtUnder}
-use Rattle.bson.specs.Lookup.{Found, found, first, getUnder, getWithUnder, getAtUnder, getWith, typed}
+use Rattle.bson.specs.Value.{Value, valueOf, ofTag, elementAtUnder, readAtUnder}
+use Rattle.bson.specs.Lookup.{Found, found, first, findUnder, getUnder, getWithUnder, getAtUnder, getWith, typed}
 use Rattle.laws.proofs.AnswerLaws.{never, gives-injective, unless-gives, then-gives, at-gives}
 use Rattle.laws.proofs.ReadLaws.{read-step, element-at-says}
 use Rattle.laws.proofs.Common.{split}
-use Rattle.laws.proofs.AdvanceLaws.{ended-at}
+use Rattle.laws.proofs.AdvanceLaws.{ended-at, refused-before}
 use Rattle.laws.proofs.StepLaws.{step-yields, iterate-eq}
 use Rattle.laws.proofs.PartLaws.{BothEnd, parts-inside}
 
 -- the search from an offset on
-abbrev pub searchFrom : Limit → List ℕ → List ℕ → ℕ → Answer Found
+abbrev pub searchFrom : Limit → List ℕ → List ℕ → ℕ → Answer Element
 searchFrom limit s key offset = first s key (iterateUnder limit s offset)
 
 module _ (limit : Limit) (s key : List ℕ) (offset : ℕ) where
@@ -39,7 +40,7 @@ module _ (limit : Limit) (s key : List ℕ) (offset : ℕ) where
   search-refused n p e = searched ∙ rw e
 
   module _ (e : Element) (y : stepUnder limit s (cursor offset false) ≡ gives (yield e)) where
-    pub search-found : same key (bytes s (e .key)) ≡ true → searchFrom limit s key offset ≡ found s e
+    pub search-found : same key (bytes s (e .key)) ≡ true → searchFrom limit s key offset ≡ gives e
     search-found k = searched ∙ rw (y, k)
 
     pub search-onward : same key (bytes s (e .key)) ≡ false → searchFrom limit s key offset ≡ searchFrom limit s key (past e)
@@ -57,39 +58,84 @@ pub record FoundAt (limit : Limit) (s : List ℕ) (f : Found) : Type 0 where
   pub steps : stepUnder limit s (cursor (f .element .place) false) ≡ gives (yield (f .element))
   pub reads : valueOf s (f .element) ≡ gives (f .value)
 
-module _ (limit : Limit) (s key : List ℕ) (f : Found) where
-  onward-finds : (offset : ℕ) (x : Answer Step) (i : ℕ → Iteration) → ((next : ℕ) → first s key (i next) ≡ gives f → FoundAt limit s f)
-      → stepUnder limit s (cursor offset false) ≡ x → first s key (onward x i) ≡ gives f → FoundAt limit s f
-  unfolding found
-  onward-finds offset (gives (yield e)) i h y x =
-      split (same key (bytes s (e .key)))
-      (λ t. let (v, q, g) = then-gives (valueOf s e) _ (rw t at x) in
-      let there = rw (← step-yields limit s (cursor offset false) e y .placed) at y in
-      subst (FoundAt limit s) (gives-injective g) (record { steps = there; reads = q }))
-      (λ t. h (past e) (rw t at x))
-  onward-finds offset (gives end) i h y x = never x
-  onward-finds offset (refuses n p) i h y x = never x
+-- an element that a step at its place yields
+abbrev pub StepsTo : Limit → List ℕ → Element → Type 0
+StepsTo limit s e = stepUnder limit s (cursor (e .place) false) ≡ gives (yield e)
 
-  finds-for : (n offset : ℕ) → first s key (iterateFor limit n s offset) ≡ gives f → FoundAt limit s f
-  unfolding iterateFor
-  finds-for zero offset x = never x
-  finds-for (suc n) offset x = onward-finds offset (stepUnder limit s (cursor offset false)) (iterateFor limit n s) (finds-for n) refl x
+steps-there : (limit : Limit) (s : List ℕ) (offset : ℕ) (e : Element) → stepUnder limit s (cursor offset false) ≡ gives (yield e)
+    → StepsTo limit s e
+steps-there limit s offset e y = rw (← step-yields limit s (cursor offset false) e y .placed) at y
 
-  module _ (x : getUnder limit s key ≡ gives f) where
+-- what reading one gives is found there
+pub found-at : (limit : Limit) (s : List ℕ) (e : Element) (f : Found) → StepsTo limit s e → found s e ≡ gives f
+    → (f .element .place ≡ e .place) × FoundAt limit s f
+unfolding found
+found-at limit s e f y x =
+    let (v, q, g) = then-gives (valueOf s e) _ x in
+    subst (λ (d : Found). (d .element .place ≡ e .place) × FoundAt limit s d) (gives-injective g)
+    (refl, record { steps = y; reads = q })
+
+-- it lies in the slice, and so do the parts of its value
+pub found-inside : (limit : Limit) (s : List ℕ) (f : Found) → FoundAt limit s f
+    → (past (f .element) ≤ length s) × BothEnd (length s) (f .value)
+found-inside limit s f x =
+    let y = step-yields limit s _ (f .element) (x .steps) in
+    (y .inside, parts-inside s _ (f .element) y (f .value) (x .reads))
+
+module _ (limit : Limit) (s key : List ℕ) where
+  module _ (e : Element) where
+    onward-finds : (offset : ℕ) (x : Answer Step) (i : ℕ → Iteration) → ((next : ℕ) → first s key (i next) ≡ gives e → StepsTo limit s e)
+        → stepUnder limit s (cursor offset false) ≡ x → first s key (onward x i) ≡ gives e → StepsTo limit s e
+    onward-finds offset (gives (yield d)) i h y x =
+        split (same key (bytes s (d .key)))
+        (λ t. subst (StepsTo limit s) (gives-injective (rw t at x)) (steps-there limit s offset d y))
+        (λ t. h (past d) (rw t at x))
+    onward-finds offset (gives end) i h y x = never x
+    onward-finds offset (refuses n p) i h y x = never x
+
+    finds-for : (n offset : ℕ) → first s key (iterateFor limit n s offset) ≡ gives e → StepsTo limit s e
+    unfolding iterateFor
+    finds-for zero offset x = never x
+    finds-for (suc n) offset x = onward-finds offset (stepUnder limit s (cursor offset false)) (iterateFor limit n s) (finds-for n) refl x
+
+    pub find-steps : findUnder limit s key ≡ gives e → StepsTo limit s e
+    unfolding findUnder iterateUnder
+    find-steps x = finds-for (suc (length s)) 4 x
+
+  -- a search is refused in the slice or where it began
+  module _ (n p : ℕ) where
+    onward-place : (offset : ℕ) (x : Answer Step) (i : ℕ → Iteration) → offset ≤ 4 + length s
+        → ((next : ℕ) → next ≤ 4 + length s → first s key (i next) ≡ refuses n p → p ≤ 4 + length s)
+        → stepUnder limit s (cursor offset false) ≡ x → first s key (onward x i) ≡ refuses n p → p ≤ 4 + length s
+    onward-place offset (gives (yield d)) i l h y x =
+        split (same key (bytes s (d .key)))
+        (λ t. never (sym (rw t at x)))
+        (λ t. h (past d) (omega (arith, step-yields limit s (cursor offset false) d y .inside)) (rw t at x))
+    onward-place offset (gives end) i l h y x = let j : terminator s ≡ p = cc in omega arith
+    onward-place offset (refuses m q) i l h y x = let j : q ≡ p = cc in omega (arith, refused-before limit s offset m q y)
+
+    place-for : (m offset : ℕ) → offset ≤ 4 + length s → first s key (iterateFor limit m s offset) ≡ refuses n p → p ≤ 4 + length s
+    unfolding iterateFor
+    place-for zero offset l x = let j : 0 ≡ p = cc in omega arith
+    place-for (suc m) offset l x =
+        onward-place offset (stepUnder limit s (cursor offset false)) (iterateFor limit m s) l (place-for m) refl x
+
+    pub find-place : findUnder limit s key ≡ refuses n p → p ≤ 4 + length s
+    unfolding findUnder iterateUnder
+    find-place x = place-for (suc (length s)) 4 (omega arith) x
+
+  module _ (f : Found) (x : getUnder limit s key ≡ gives f) where
     pub get-finds : FoundAt limit s f
-    unfolding getUnder iterateUnder
-    get-finds = finds-for (suc (length s)) 4 x
+    unfolding getUnder
+    get-finds = let (e, q, h) = then-gives (findUnder limit s key) _ x in found-at limit s e f (find-steps e q) h .1
 
     -- so a read at its place gives its value
     pub get-read : (stepUnder limit s (cursor (f .element .place) false) ≡ gives (yield (f .element)))
         × (readAtUnder limit s (f .element .place) ≡ gives (f .value))
     get-read = (get-finds .steps, read-step limit s (f .element .place) (f .element) (get-finds .steps) ∙ get-finds .reads)
 
-    -- it lies in the slice, and so do the parts of its value
     pub get-inside : (past (f .element) ≤ length s) × BothEnd (length s) (f .value)
-    get-inside =
-        let y = step-yields limit s _ (f .element) (get-finds .steps) in
-        (y .inside, parts-inside s _ (f .element) y (f .value) (get-finds .reads))
+    get-inside = found-inside limit s f get-finds
 
 -- ---- at a place
 
@@ -111,15 +157,12 @@ module _ (limit : Limit) (s : List ℕ) where
 
   -- it is found as a lookup finds
   pub get-at-finds : (place : ℕ) (f : Found) → getAtUnder limit s place ≡ gives f → (f .element .place ≡ place) × FoundAt limit s f
-  unfolding getAtUnder found
+  unfolding getAtUnder
   get-at-finds place f x =
       let (e, q, h) = then-gives (elementAtUnder limit s place) _ x in
-      let (v, r, g) = then-gives (valueOf s e) _ h in
       let y = element-at-says limit s place e q in
-      let placed = step-yields limit s (cursor place false) e y .placed in
-      let there = subst (λ (p : ℕ). stepUnder limit s (cursor p false) ≡ gives (yield e)) (sym placed) y in
-      subst (λ (d : Found). (d .element .place ≡ place) × FoundAt limit s d) (gives-injective g)
-      (placed, record { steps = there; reads = r })
+      let (i, there) = found-at limit s e f (steps-there limit s place e y) h in
+      (i ∙ step-yields limit s (cursor place false) e y .placed, there)
 
   -- so what a lookup finds is had at its place
   pub had-there : (f : Found) → FoundAt limit s f → getAtUnder limit s (f .element .place) ≡ gives f
@@ -128,15 +171,22 @@ module _ (limit : Limit) (s : List ℕ) where
 
 -- ---- with a tag
 
--- what a typed lookup finds was read, and has the tag
+-- what is found of a tag was read, and has the tag
+pub of-tag-says : (x : Answer Found) (tag : ℕ) (f : Found) → (then x λ g. ofTag (g .element) tag g) ≡ gives f
+    → (x ≡ gives f) × (f .element .tag ≡ tag)
+of-tag-says x tag f h =
+    let (g, q, h1) = then-gives x _ h in
+    let (t, h2) = unless-gives (eqb (g .element .tag) tag) 17 _ (at-gives (g .element .place) _ h1) in
+    let i : g ≡ f = gives-injective h2 in
+    (q ∙ ap gives i, sym (ap (λ (d : Found). d .element .tag) i) ∙ eqb-true _ _ t)
+
 pub get-with-says : (limit : Limit) (s key : List ℕ) (tag : ℕ) (f : Found) → getWithUnder limit s key tag ≡ gives f
     → (getUnder limit s key ≡ gives f) × (f .element .tag ≡ tag)
 unfolding getWithUnder
-get-with-says limit s key tag f x =
-    let (g, q, h) = then-gives (getUnder _ s key) _ x in
-    let (t, h1) = unless-gives (eqb (g .element .tag) tag) 17 _ (at-gives (g .element .place) _ h) in
-    let i : g ≡ f = gives-injective h1 in
-    (q ∙ ap gives i, sym (ap (λ (d : Found). d .element .tag) i) ∙ eqb-true _ _ t)
+get-with-says limit s key tag f x = of-tag-says (getUnder limit s key) tag f x
+
+pub get-with-finds : (limit : Limit) (s key : List ℕ) (tag : ℕ) (f : Found) → getWithUnder limit s key tag ≡ gives f → FoundAt limit s f
+get-with-finds limit s key tag f x = get-finds limit s key f (get-with-says limit s key tag f x .0)
 
 -- ---- the typed getters of numbers
 

@@ -32,13 +32,13 @@ use Value.{content, valueIn, valueOf}
 
 -- a claim that every leaf meets holds of a value where it holds of what the value opens
 module _ (P : Value → Type 0) (leafy : (x : Leaf) → P (leaf x)) (v : Value) where
-  leaf-case : {x : Leaf} → gives (leaf x) ≡ gives v → P v
+  pub leaf-case : {x : Leaf} → gives (leaf x) ≡ gives v → P v
   leaf-case e = subst P (gives-injective e) (leafy _)
 
-  as-leaf-case : {A : Type 0} (f : A → Leaf) (a : Answer A) → asLeaf f a ≡ gives v → P v
+  pub as-leaf-case : {A : Type 0} (f : A → Leaf) (a : Answer A) → asLeaf f a ≡ gives v → P v
   as-leaf-case f a e = let (x, q, h) = then-gives a _ e in leaf-case h
 
-  binary-case : (b : List ℕ) (w : Part) → binaryValue b w ≡ gives v → P v
+  pub binary-case : (b : List ℕ) (w : Part) → binaryValue b w ≡ gives v → P v
   unfolding binaryValue
   binary-case b w e =
       split (eqb (getD b 4 0) 2)

@@ -18,8 +18,9 @@ use Rattle.bson.specs.Framing.{patternOptionsUnder, regexSizeUnder, framedUnder
 use Rattle.bson.specs.Step.{terminator, admitted, Cursor, cursor, Element, past, elementUnder, Step, yield, end, stepUnder, yielded}
 use Rattle.bson.specs.Step.{Iteration, ended, broken, more, onward, iterateFor, iterateUnder}
 use Rattle.bson.specs.Value.{bool, timestampOf, text, declaresData, binaryValue, scopeValue, content, valueIn, valueOf, ofTag}
-use Rattle.bson.specs.Value.{elementAtUnder, readAtUnder, readWithUnder}
-use Rattle.bson.specs.Lookup.{found, first, getUnder, getWithUnder, isEmpty, getAtUnder}
+use Rattle.bson.specs.Value.{Value, leaf, document, array, codeWithScope, elementAtUnder, readAtUnder, readWithUnder}
+use Rattle.bson.specs.Lookup.{Found, found, first, findUnder, getUnder, getWithUnder, isEmpty, getAtUnder}
+use Rattle.bson.specs.Path.{keysOf, moved, entered, lookAlong, getPathUnder, getPathWithUnder}
 use Rattle.bson.specs.Level.{Opening, closed, opens, Level, outermost}
 use Rattle.bson.specs.Check.{Walk, keyPasses, visit, inside, opened, along, walkFor, walkUnder, checkUnder, check}
 use Rattle.bson.specs.Join.{Outcome, wrote, refused, Joined, passing, sizeOfBoth, bothPut, join}
@@ -31,6 +32,7 @@ use Rattle.laws.proofs.StepLaws.{step-yields, Each, iterate-each}
 use Rattle.laws.proofs.CheckLaws.{visit-says}
 use Rattle.laws.proofs.OpenLaws.{value-opens, opens-shorter}
 use Rattle.laws.proofs.ReadLaws.{element-at-says}
+use Rattle.laws.proofs.LookupLaws.{find-steps}
 use Rattle.laws.proofs.GrammarBack.{regex-alone}
 use Rattle.laws.proofs.TagLaws.{sized-by}
 use Tags.{ElementType, Boolean, Int32, Double, Int64, DateTime, Timestamp, ObjectId, Decimal128, Null, Undefined, MinKey, MaxKey, String}
@@ -190,6 +192,10 @@ module _ (limit : Limit) where
   abbrev pub typedReads : List ℕ
   typedReads = 17 ∷ reads
 
+  -- a path, with a tag or without: 17 too where a value on the way can't be entered, and 21 where it has too many keys
+  abbrev pub paths : List ℕ
+  paths = 21 ∷ typedReads
+
   -- "numbers 1 to 13 mean damage", and under a limit 22
   abbrev pub damage : List ℕ
   damage = 11 ∷ 12 ∷ 13 ∷ steps
@@ -211,9 +217,28 @@ reads-typed : (limit : Limit) → allIn (reads limit) (typedReads limit) ≡ tru
 reads-typed unlimited = refl
 reads-typed (most m) = refl
 
+reads-paths : (limit : Limit) → allIn (reads limit) (paths limit) ≡ true
+reads-paths unlimited = refl
+reads-paths (most m) = refl
+
 missing-in : (limit : Limit) → oneOf (framings limit) (missing limit) ≡ true
 missing-in unlimited = refl
 missing-in (most m) = refl
+
+-- ---- the tag asked for, and values on a path's way
+
+pub of-tag-in : {A : Type 0} {ms : List ℕ} (e : Element) (tag : ℕ) (a : A) → oneOf ms 17 ≡ true → RefusesIn ms (ofTag e tag a)
+of-tag-in e tag a h = at-in (e .place) (unless-in (eqb (e .tag) tag) 17 h given)
+
+pub entered-in : {ms : List ℕ} (v : Value) → oneOf ms 17 ≡ true → RefusesIn ms (entered v)
+entered-in (leaf v) h = by h
+entered-in (document p) h = given
+entered-in (array p) h = given
+entered-in (codeWithScope c p) h = by h
+
+pub moved-in : {ms : List ℕ} (p : ℕ) {x : Answer Found} → RefusesIn ms x → RefusesIn ms (moved p x)
+moved-in p given = given
+moved-in p (by e) = by e
 
 -- ---- steps and readings
 
@@ -273,14 +298,11 @@ module _ (limit : Limit) where
   unfolding readAtUnder
   read-in s place = then-in (at-place-in s place) (λ e q. weaken refl (value-at-in s place e q))
 
-  of-tag-in : {A : Type 0} (e : Element) (tag : ℕ) (a : A) → RefusesIn (typedReads limit) (ofTag e tag a)
-  of-tag-in e tag a = at-in (e .place) (unless-in (eqb (e .tag) tag) 17 refl given)
-
   pub read-with-in : (s : List ℕ) (place tag : ℕ) → RefusesIn (typedReads limit) (readWithUnder limit s place tag)
   unfolding readWithUnder
   read-with-in s place tag =
       then-in (weaken (reads-typed limit) (at-place-in s place)) λ e q.
-      then-in (weaken refl (value-at-in s place e q)) (λ v r. of-tag-in e tag v)
+      then-in (weaken refl (value-at-in s place e q)) (λ v r. of-tag-in e tag v refl)
 
   pub get-at-in : (s : List ℕ) (place : ℕ) → RefusesIn (reads limit) (getAtUnder limit s place)
   unfolding getAtUnder found
@@ -313,21 +335,44 @@ module _ (limit : Limit) where
   unfolding iterateUnder
   iterate-in s offset = breaks-for (suc (length s)) s offset (omega arith) (omega arith)
 
-  first-in : (s key : List ℕ) (offset : ℕ) (i : Iteration) → Each s offset i → BreaksIn i → RefusesIn (reads limit) (first s key i)
+  first-in : (s key : List ℕ) (i : Iteration) → BreaksIn i → RefusesIn (reads limit) (first s key i)
+  first-in s key ended h = by refl
+  first-in s key (broken n p) h = by (one-all-in (steps limit) (reads limit) n (steps-reads limit) h)
+  first-in s key (more e rest) h = cond-in (same key (bytes s (e .key))) given (first-in s key rest h)
+
+  find-key-in : (s key : List ℕ) → RefusesIn (reads limit) (findUnder limit s key)
+  unfolding findUnder
+  find-key-in s key = first-in s key (iterateUnder limit s 4) (iterate-in s 4)
+
+  found-in : (s : List ℕ) (c : Cursor) (e : Element) → FramedAt s c e → RefusesIn contents (found s e)
   unfolding found
-  first-in s key offset ended g h = by refl
-  first-in s key offset (broken n p) g h = by (one-all-in (steps limit) (reads limit) n (steps-reads limit) h)
-  first-in s key offset (more e rest) g h =
-      cond-in (same key (bytes s (e .key))) (then-in (weaken refl (yielded-in s _ e (g .0))) (λ v q. given))
-      (first-in s key (past e) rest (g .1) h)
+  found-in s c e y = then-in (yielded-in s c e y) (λ v q. given)
 
   pub get-in : (s key : List ℕ) → RefusesIn (reads limit) (getUnder limit s key)
   unfolding getUnder
-  get-in s key = first-in s key 4 (iterateUnder limit s 4) (iterate-each limit s 4) (iterate-in s 4)
+  get-in s key =
+      then-in (find-key-in s key) (λ e q. weaken refl (found-in s _ e (step-yields limit s _ e (find-steps limit s key e q))))
 
   pub get-with-in : (s key : List ℕ) (tag : ℕ) → RefusesIn (typedReads limit) (getWithUnder limit s key tag)
   unfolding getWithUnder
-  get-with-in s key tag = then-in (weaken (reads-typed limit) (get-in s key)) (λ f q. of-tag-in (f .element) tag f)
+  get-with-in s key tag = then-in (weaken (reads-typed limit) (get-in s key)) (λ f q. of-tag-in (f .element) tag f refl)
+
+  -- ---- lookup by a path
+
+  look-along-in : (s key : List ℕ) (keys : List (List ℕ)) → RefusesIn (paths limit) (lookAlong limit s key keys)
+  look-along-in s key [] = weaken (reads-paths limit) (get-in s key)
+  look-along-in s key (next ∷ keys) =
+      then-in (weaken (reads-paths limit) (get-in s key)) λ f q.
+      then-in (at-in (f .element .place) (entered-in (f .value) refl)) λ p r.
+      moved-in (p .offset) (look-along-in (bytes s p) next keys)
+
+  pub path-in : (s path : List ℕ) → RefusesIn (paths limit) (getPathUnder limit s path)
+  unfolding getPathUnder
+  path-in s path = let (key, keys) = keysOf path in unless-in (leb (length keys) 200) 21 refl (look-along-in s key keys)
+
+  pub path-with-in : (s path : List ℕ) (tag : ℕ) → RefusesIn (paths limit) (getPathWithUnder limit s path tag)
+  unfolding getPathWithUnder
+  path-with-in s path tag = then-in (path-in s path) (λ f q. of-tag-in (f .element) tag f refl)
 
 -- ---- a value of any element
 

@@ -2,10 +2,13 @@ pub mod Spots
 pub mod Whole
 pub mod Count
 pub mod Undamaged
+pub mod PathsAnswer
+pub mod Paths
 pub mod FirstOfKey
 pub mod TypedRefused
 pub mod Demand3
 pub mod DemandPoints
+pub mod PathsPoints
 pub mod OrLong
 pub mod NoGap
 pub mod WhereRefused

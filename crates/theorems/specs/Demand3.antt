@@ -11,9 +11,14 @@ use Rattle.bson.specs.Cstring.{Limit}
 use Rattle.bson.specs.Step.{terminator, cursor, Element, Step, stepUnder}
 use Rattle.bson.specs.Value.{Value, readAtUnder, readWithUnder}
 use Rattle.bson.specs.Lookup.{Found, getUnder, getBytesUnder, getWithUnder}
+use Rattle.bson.specs.Path.{getPathUnder, getPathWithUnder}
 use Rattle.bson.specs.Level.{Level}
 use Rattle.bson.specs.Check.{checkUnder}
 use Rattle.bson.specs.Reach.{Spot, start, Comes, Reachable, Whole, GoodKeys, Number, Absent, First}
+
+-- by which numbers a path is refused where nothing is damaged
+abbrev pub PathRefuses : ℕ → Type 0
+PathRefuses k = (k ≡ 16) ⊎ ((k ≡ 17) ⊎ (k ≡ 21))
 
 module _ (limit : Limit) where
   -- lookups of a key in a document where nothing is damaged
@@ -42,6 +47,11 @@ module _ (limit : Limit) where
     pub typed-readings : (σ : Spot) (x : Reachable limit s σ) (tag k p : ℕ)
         → (readWithUnder limit (σ .document) (σ .offset) tag ≡ refuses k p) ↔ ((k ≡ 17) × (p ≡ σ .offset) × (x .element .tag ≡ tag → ⊥))
     pub lookups : (d : List ℕ) (l : Level) → Comes limit s (start d l) → (key : List ℕ) → Lookups d key
+    -- "in a passed slice a path gives a value, 16, 17 or the new number", and so does a typed one
+    pub paths : (d : List ℕ) (l : Level) → Comes limit s (start d l) → (path : List ℕ) (k p : ℕ) → getPathUnder limit d path ≡ refuses k p
+        → PathRefuses k
+    pub typed-paths : (d : List ℕ) (l : Level) → Comes limit s (start d l) → (path : List ℕ) (tag k p : ℕ)
+        → getPathWithUnder limit d path tag ≡ refuses k p → PathRefuses k
 
   pub record Demand3 : Type 0 where
     -- "passes a slice exactly when it is admitted, every iteration so met ends at its own terminator, every reachable value can be read,

@@ -1,6 +1,8 @@
 pub mod Demand3
 pub mod DemandPoints
 pub mod OrLong
+pub mod Paths
+pub mod PathsPoints
 pub mod EveryYield
 pub mod EveryByte
 pub mod FirstChild

@@ -13,6 +13,7 @@ use Rattle.bson.specs.Framing.{patternOptionsUnder, patternOptions}
 use Rattle.bson.specs.Step.{Cursor, Element, yield, stepUnder, step}
 use Rattle.bson.specs.Value.{readAtUnder, readWithUnder, readAt, readWith}
 use Rattle.bson.specs.Lookup.{getUnder, getWithUnder, get, getWith}
+use Rattle.bson.specs.Path.{getPathUnder, getPathWithUnder, getPath, getPathWith}
 use Rattle.bson.specs.Check.{checkUnder, check}
 
 -- the answer without a limit, or 22
@@ -31,6 +32,8 @@ pub record Limited (m : ℕ) : Type 0 where
   pub typed-readings : (s : List ℕ) (place tag : ℕ) → OrLong (readWithUnder (most m) s place tag) (readWith s place tag)
   pub lookups : (s key : List ℕ) → OrLong (getUnder (most m) s key) (get s key)
   pub typed-lookups : (s key : List ℕ) (tag : ℕ) → OrLong (getWithUnder (most m) s key tag) (getWith s key tag)
+  pub paths : (s path : List ℕ) → OrLong (getPathUnder (most m) s path) (getPath s path)
+  pub typed-paths : (s path : List ℕ) (tag : ℕ) → OrLong (getPathWithUnder (most m) s path tag) (getPathWith s path tag)
   pub checks : (strict : Bool) (s : List ℕ) → OrLong (checkUnder (most m) strict s) (check strict s)
   -- so what passes under a limit passes without one, with the same count
   pub passes : (strict : Bool) (s : List ℕ) (n : ℕ) → checkUnder (most m) strict s ≡ gives n → check strict s ≡ gives n

@@ -5,20 +5,18 @@ use mathlib.Core.Path.{_≡_, refl, sym, ap, subst, _∙_}
 use mathlib.Core.List.{List}
 use mathlib.Core.Bool.{Bool, true, false, true≢false, _&&_}
 use native.Mathlib.Omega.{arith}
-use lib.ListN.{length, getD}
-use lib.Dec.{leb, eqb}
-use Rattle.bson.specs.Answer.{Answer, gives, refuses, then, unless}
-use Rattle.bson.specs.Bytes.{declares, Part, bytes}
+use lib.ListN.{length}
+use Rattle.bson.specs.Answer.{Answer, gives, refuses, then}
+use Rattle.bson.specs.Bytes.{Part, bytes}
 use Rattle.bson.specs.Cstring.{Limit}
-use Rattle.bson.specs.Step.{terminator, admitted, cursor, Cursor, Element, past, yield, end, stepUnder}
+use Rattle.bson.specs.Step.{cursor, Cursor, Element, past, yield, end, stepUnder}
 use Rattle.bson.specs.Value.{Value, leaf, document, array, codeWithScope}
 use Rattle.bson.specs.Level.{Opening, closed, opens, opening, Level, deeper}
 use Rattle.bson.specs.ArrayKey.{goodArrayKey}
 use Rattle.bson.specs.Check.{Walk, keyPasses, visit, opened, walkUnder}
-use Rattle.laws.proofs.AnswerLaws.{never, answered}
+use Rattle.laws.proofs.AnswerLaws.{answered}
 use Rattle.laws.specs.FramedAt.{FramedAt}
 use Rattle.laws.proofs.StepLaws.{step-yields}
-use Rattle.laws.proofs.AdvanceLaws.{step-unadmitted, refused-place}
 use Rattle.laws.proofs.OpenLaws.{value-opens}
 use Rattle.laws.proofs.CheckLaws.{visit-says, visit-keyed, visit-bad-key, walkFrom, walk-eq, walk-ends, walk-refused, walk-onward}
 use Rattle.visit.specs.declared.Opening as declared
@@ -27,28 +25,6 @@ use Rattle.visit.specs.declared.Visited.{Visited}
 use Rattle.visit.specs.declared.Visited.the-variants.{Is, Refused}
 
 -- ---- places
-
-unless-at-0 : {A : Type 0} (b : Bool) (k : ℕ) (x : Answer A) (n p : ℕ) → (x ≡ refuses n p → p ≡ 0) → unless b k x ≡ refuses n p → p ≡ 0
-unless-at-0 true k x n p f q = f q
-unless-at-0 false k x n p f q = cc
-
-admission-at-0 : (s : List ℕ) (n p : ℕ) → admitted s ≡ refuses n p → p ≡ 0
-unfolding admitted
-admission-at-0 s n p =
-    unless-at-0 (leb 5 (length s)) 1 _ n p
-    (unless-at-0 (declares s (length s)) 2 _ n p
-    (unless-at-0 (eqb (getD s (terminator s) 0) 0) 3 _ n p (λ q. never (sym q))))
-
--- the place of a step's refusal does not lie behind its offset
-pub refused-before : (limit : Limit) (s : List ℕ) (offset n p : ℕ) → stepUnder limit s (cursor offset false) ≡ refuses n p → p ≤ offset
-refused-before limit s offset n p q = of (admitted s) refl
-  where
-    of : (x : Answer ℕ) → admitted s ≡ x → p ≤ offset
-    of (gives m) a = omega (arith, refused-place limit s m a offset n p q)
-    of (refuses k r) a =
-        let u = sym (step-unadmitted limit s (cursor offset false) k r a) ∙ q in
-        let i : r ≡ p = cc in
-        omega (arith, admission-at-0 s k r a)
 
 -- an element that a step yields stands at its place
 pub yields-placed : (limit : Limit) (s : List ℕ) (offset : ℕ) (e : Element) → stepUnder limit s (cursor offset false) ≡ gives (yield e)

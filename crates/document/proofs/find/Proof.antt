@@ -9,7 +9,7 @@ use Rattle.bson.specs.Answer.{gives, refuses}
 use Rattle.bson.specs.Cstring.{Limit}
 use Rattle.bson.specs.Bytes.{Part, same}
 use Rattle.bson.specs.Step.{Element, past, cursor, yield, end, stepUnder}
-use Rattle.bson.specs.Lookup.{found, getUnder}
+use Rattle.bson.specs.Lookup.{findUnder}
 use Rattle.laws.specs.FramedAt.{FramedAt}
 use Rattle.laws.proofs.AnswerLaws.{answered}
 use Rattle.laws.proofs.BytesLaws.{slice-part}
@@ -30,21 +30,23 @@ upToZero s key = take (key .offset + key .size - key .offset) (drop (key .offset
 -- the loop goes over `whole`, which is all of the slice
 record Searching (limit : Limit) (s key whole : List ℕ) (offset : ℕ) : Type 0 where
   all : whole ≡ s
-  searched : searchFrom limit s key offset ≡ getUnder limit s key
+  searched : searchFrom limit s key offset ≡ findUnder limit s key
 
 module _ {limit : Limit} {s key whole : List ℕ} {offset : ℕ} (i : Searching limit s key whole offset) where
-  ends : stepUnder limit whole (cursor offset false) ≡ gives end → refuses 16 offset ≡ getUnder limit s key
+  ends : stepUnder limit whole (cursor offset false) ≡ gives end → refuses 16 offset ≡ findUnder limit s key
   ends e = sym (search-ends _ s key offset (rw (i .all) at e)) ∙ i .searched
 
-  refused : {n p : ℕ} → stepUnder limit whole (cursor offset false) ≡ refuses n p → refuses n p ≡ getUnder limit s key
+  refused : {n p : ℕ} → stepUnder limit whole (cursor offset false) ≡ refuses n p → refuses n p ≡ findUnder limit s key
   refused e = sym (search-refused _ s key offset _ _ (rw (i .all) at e)) ∙ i .searched
 
   module _ {e : Element} (y : stepUnder limit s (cursor offset false) ≡ gives (yield e)) where
-    matched : same key (upToZero whole (e .key)) ≡ true → found s e ≡ getUnder limit s key
+    matched : same key (upToZero whole (e .key)) ≡ true → gives e ≡ findUnder limit s key
     matched k = sym (search-found _ s key offset _ y (rw (i .all, slice-part s (e .key)) at k)) ∙ i .searched
 
     onward : same key (upToZero whole (e .key)) ≡ false → Searching limit s key whole (past e)
-    onward k = record { all = i .all; searched = sym (search-onward _ s key offset _ y (rw (i .all, slice-part s (e .key)) at k)) ∙ i .searched }
+    onward k =
+        let on = search-onward _ s key offset _ y (rw (i .all, slice-part s (e .key)) at k) in
+        record { all = i .all; searched = sym on ∙ i .searched }
 
 abbrev Inv-loop : tie.InvT-loop
 Inv-loop s key limit whole place₀ place = Searching (limitOf limit) s key whole place
@@ -53,7 +55,7 @@ abbrev μ-loop : tie.MeasureT-loop
 μ-loop s key limit whole place₀ place = length s - place
 
 loop-holds : tie.Need-loop-holds Inv-loop μ-loop
-unfolding getUnder
+unfolding findUnder
 loop-holds c = record { all = rest-part _ 0; searched = refl }
 
 -- where the sizes are told, the step yields the element that is made of them

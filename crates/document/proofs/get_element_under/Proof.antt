@@ -1,7 +1,7 @@
 -- `document::get_element_under` meets its contract: the element that is found, read.
-use mathlib.Core.Path.{sym, _∙_}
+use Rattle.bson.specs.Lookup.{getUnder}
 use Rattle.laws.proofs.AnswerLaws.{answered}
-use Rattle.document.specs.Said.{reads}
+use Rattle.document.specs.Said.{saidHit}
 use Rattle.document.proofs.get_element_under.Statement.{statement}
 use Rattle.document.proofs.get_element_under.Tie as tie
 
@@ -12,12 +12,14 @@ enum-known-element : tie.Need-enum-known-element
 enum-known-element c = c .match .keys2
 
 returns : tie.Need-returns
-returns c = sym (answered (reads _) (c .before .before .before .find .ensures) (c .before .number .given .1))
+unfolding getUnder
+returns c = rw (answered saidHit (c .before .before .before .find .ensures) (c .before .number .given .1))
 
 returns-2 : tie.Need-returns-2
+unfolding getUnder
 returns-2 c =
     let b = c .before .before in
-    c .read-element .ensures ∙ sym (answered (reads _) (b .before .before .find .ensures) (b .element .given .1))
+    rw (answered saidHit (b .before .before .find .ensures) (b .element .given .1)) (c .read-element .ensures)
 
 pub get-element-under-spec : {M : Type 1} → statement M
 get-element-under-spec = tie.close (tie.spec (λ c κs. tt) enum-known-number enum-known-element (λ c κs. tt) returns returns-2)

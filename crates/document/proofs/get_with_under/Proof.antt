@@ -1,7 +1,7 @@
 -- `document::get_with_under` meets its contract: the element that is found, read, and the test of its tag.
-use Rattle.bson.specs.Lookup.{getWithUnder}
+use Rattle.bson.specs.Lookup.{getUnder, getWithUnder}
 use Rattle.laws.proofs.AnswerLaws.{answered}
-use Rattle.document.specs.Said.{reads}
+use Rattle.document.specs.Said.{saidHit}
 use Rattle.document.proofs.get_with_under.Statement.{statement}
 use Rattle.document.proofs.get_with_under.Tie as tie
 
@@ -12,14 +12,14 @@ enum-known-element : tie.Need-enum-known-element
 enum-known-element c = c .match .keys2
 
 returns : tie.Need-returns
-unfolding getWithUnder
-returns c = rw (answered (reads _) (c .before .before .before .find .ensures) (c .before .number .given .1))
+unfolding getUnder getWithUnder
+returns c = rw (answered saidHit (c .before .before .before .find .ensures) (c .before .number .given .1))
 
 returns-2 : tie.Need-returns-2
-unfolding getWithUnder
+unfolding getUnder getWithUnder
 returns-2 c =
     let b = c .before .before in
-    rw (answered (reads _) (b .before .before .find .ensures) (b .element .given .1)) (c .read-element-with .ensures)
+    rw (answered saidHit (b .before .before .find .ensures) (b .element .given .1)) (c .read-element-with .ensures)
 
 pub get-with-under-spec : {M : Type 1} → statement M
 get-with-under-spec = tie.close (tie.spec (λ c κs. tt) enum-known-number enum-known-element (λ c κs. tt) returns returns-2)

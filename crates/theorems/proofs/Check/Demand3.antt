@@ -10,6 +10,7 @@ use Rattle.theorems.specs.Demand3.{Lookups, Undamaged, Demand3}
 use Rattle.theorems.proofs.Check.Whole.{check-passes, strict-passes}
 use Rattle.theorems.proofs.Check.Count.{check-counts, number-unique}
 use Rattle.theorems.proofs.Check.Undamaged as passed
+use Rattle.theorems.proofs.Check.PathsAnswer.{path-refused, path-with-refused}
 use Rattle.bson.specs.Cstring.{Limit}
 use Rattle.bson.specs.Check.{checkUnder}
 
@@ -36,6 +37,8 @@ module _ (limit : Limit) where
         readings = passed.reading-answers limit s n p;
         typed-readings = passed.reading-other limit s n p;
         lookups = lookups-hold s n p;
+        paths = path-refused limit s n p;
+        typed-paths = path-with-refused limit s n p;
       }
 
   pub demand-3 : Demand3 limit

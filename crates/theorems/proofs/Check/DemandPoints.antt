@@ -9,7 +9,7 @@ use Rattle.bson.specs.Tags.{tags, rowOf}
 use Rattle.bson.specs.Framing.{lengthField, fits, zeroEnded, stringSize, scopeSize, framedUnder, valueSizeUnder}
 use Rattle.bson.specs.Step.{admitted, elementUnder, stepUnder, iterateFor, iterateUnder}
 use Rattle.bson.specs.Value.{leaf, boolean, bool, scopeValue, content, valueIn, valueOf, readAt}
-use Rattle.bson.specs.Lookup.{Found, found, get, getUnder}
+use Rattle.bson.specs.Lookup.{Found, found, findUnder, get, getUnder}
 use Rattle.bson.specs.Level.{outermost, opening}
 use Rattle.bson.specs.Check.{visit, opened, walkFor, walkUnder, check, checkUnder}
 use Rattle.bson.specs.Reach.{first}
@@ -25,8 +25,8 @@ there = record { element = earlier; value = leaf (boolean false) }
 -- what the check and a lookup answer
 answers : (check false nullInScope ≡ gives 2) × (check false twoKeys ≡ gives 2) × (get twoKeys keyA ≡ gives there)
 unfolding le32 bytes rows utf8 zeroText cstringUnder tags rowOf lengthField fits zeroEnded stringSize scopeSize framedUnder valueSizeUnder
-    admitted elementUnder stepUnder iterateFor iterateUnder bool scopeValue content valueIn valueOf found getUnder opening visit opened
-    walkFor walkUnder checkUnder
+    admitted elementUnder stepUnder iterateFor iterateUnder bool scopeValue content valueIn valueOf found findUnder getUnder opening visit
+    opened walkFor walkUnder checkUnder
 answers = (refl, refl, refl)
 
 lookups : Demand3 unlimited → Lookups unlimited twoKeys keyA

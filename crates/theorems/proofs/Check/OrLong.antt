@@ -19,7 +19,7 @@ use Rattle.laws.proofs.FramingLaws.{pattern-options-under, pattern-options-most
 use Rattle.laws.proofs.GrammarBack.{regex-alone}
 use Rattle.laws.proofs.StepLaws.{step-frames}
 use Rattle.laws.proofs.LimitLaws.{Turns, stays, turns, text-turns, step-turns, read-turns, read-with-turns, get-turns, get-with-turns}
-use Rattle.laws.proofs.LimitLaws.{check-turns}
+use Rattle.laws.proofs.LimitLaws.{path-turns, path-with-turns, check-turns}
 use Rattle.theorems.specs.OrLong.{OrLong, Limited}
 
 or-long : {A : Type 0} {x y : Answer A} → Turns Unit x y → OrLong x y
@@ -61,6 +61,8 @@ module _ (m : ℕ) where
         typed-readings = λ s place tag. or-long (read-with-turns Unit _ _ (length s) (texts (length s)) s place tag (omega arith));
         lookups = λ s key. or-long (get-turns Unit _ _ (length s) (texts (length s)) s key (omega arith));
         typed-lookups = λ s key tag. or-long (get-with-turns Unit _ _ (length s) (texts (length s)) s key tag (omega arith));
+        paths = λ s path. or-long (path-turns Unit _ _ (length s) (texts (length s)) s path (omega arith));
+        typed-paths = λ s path tag. or-long (path-with-turns Unit _ _ (length s) (texts (length s)) s path tag (omega arith));
         checks = λ strict s. or-long (checked strict s);
         passes = λ strict s n e. kept-count n (checked strict s) e;
         keys = λ s c e x. cstring-most m _ _ (step-frames (most m) s c e x .0);

@@ -8,12 +8,12 @@ use native.Mathlib.Omega.{arith}
 use lib.ListN.{length}
 use lib.Dec.{eqb}
 use borrow.Author.Tests.{eq-eqb, eqb-true, eqb-false}
-use Rattle.bson.specs.Answer.{Answer, gives, refuses}
+use Rattle.bson.specs.Answer.{Answer, gives, refuses, then}
 use Rattle.bson.specs.Bytes.{bytes, same}
 use Rattle.bson.specs.Step.{terminator, cursor, Element, past, Step, yield, end, stepUnder}
 use Rattle.bson.specs.Value.{Value, valueOf, ofTag, elementAtUnder, readWithUnder, readAtUnder}
 use Rattle.bson.specs.Level.{Level}
-use Rattle.bson.specs.Lookup.{Found, found, getBytesUnder, getUnder, getWithUnder}
+use Rattle.bson.specs.Lookup.{Found, found, findUnder, getBytesUnder, getUnder, getWithUnder}
 use Rattle.bson.specs.Reach.{Spot, start, Comes, Reachable, From, first, next, Among, Absent, First}
 use Rattle.laws.proofs.AnswerLaws.{never, gives-injective}
 use Rattle.laws.proofs.ReadLaws.{read-step}
@@ -49,6 +49,10 @@ module _ (limit : Limit) where
   data Says (d key : List ℕ) (x : Answer Found) : Type 0 where
     missing : Absent limit d key → x ≡ refuses 16 (terminator d) → Says d key x
     finds : (e : Element) (v : Value) → First limit d key e → x ≡ gives (record { element = e; value = v }) → Says d key x
+
+  -- as what a search answers, read
+  abbrev SaysRead : (d key : List ℕ) → Answer Element → Type 0
+  SaysRead d key x = Says d key (then x (found d))
 
   module _ (s : List ℕ) (n : ℕ) (passed : checkUnder limit false s ≡ gives n) where
     step-open : (σ : Spot) → Comes limit s σ → (x : Step) × (stepUnder limit (σ .document) (cursor (σ .offset) false) ≡ gives x)
@@ -98,12 +102,12 @@ module _ (limit : Limit) where
 
       -- the search from an offset on, where no element before has the key
       search-says : (m offset : ℕ) → length d - offset < m → From limit d offset → Without limit d key offset
-          → (x : Step) → stepUnder limit d (cursor offset false) ≡ gives x → Says d key (searchFrom limit d key offset)
+          → (x : Step) → stepUnder limit d (cursor offset false) ≡ gives x → SaysRead d key (searchFrom limit d key offset)
       unfolding found
       search-says zero offset i q w x y = absurd (omega arith)
       search-says (suc m) offset i q w end y =
           let o = ended-at limit d offset y in
-          missing (λ f b. w f b (let z = among-yields limit d f b in omega arith)) (search-ends limit d key offset y ∙ ap (refuses 16) o)
+          missing (λ f b. w f b (let z = among-yields limit d f b in omega arith)) (rw (search-ends limit d key offset y, o))
       search-says (suc m) offset i q w (yield e) y =
           let r = step-yields limit d (cursor offset false) e y in
           let a : Among limit d e = record { offset = offset; from = q; yields = y } in
@@ -111,13 +115,13 @@ module _ (limit : Limit) where
           (λ t. let (j, c) = comes-from offset q in
           let (v, h) = value-reads _ (record { comes = c; element = e; yields = y }) in
           let f : First limit d key e = record { among = a; keyed = sym (same-eq _ _ t); none-before = λ g b k. w g b (omega arith) } in
-          finds e v f (search-found limit d key offset e y t ∙ rw h))
+          finds e v f (rw (search-found limit d key offset e y t, h)))
           (λ t. let (x, z) = step-from (past e) (next e q y) in
           rw (search-onward limit d key offset e y t)
           (search-says m (past e) (omega arith) (next e q y) (without-next limit d key e a w t) x z))
 
       lookup-says : Says d key (getUnder limit d key)
-      unfolding getUnder
+      unfolding getUnder findUnder
       lookup-says =
           let (x, y) = step-from 4 first in
           search-says (suc (length d)) 4 (omega arith) first (λ f b i. let z = among-yields limit d f b in absurd (omega arith)) x y
@@ -149,6 +153,13 @@ module _ (limit : Limit) where
           let σ : Spot = record { document = d; level = l; position = 0; offset = a .offset } in
           ap (readAtUnder limit d) (among-yields limit d _ a .placed) ∙ read-step limit (σ .document) (σ .offset) _ (a .yields)
           ∙ get-finds limit d key f q .reads
+
+      -- And one comes to where it lies.
+      pub lookup-comes : (f : Found) → getUnder limit d key ≡ gives f
+          → (m : ℕ) × Comes limit s (record { document = d; level = l; position = m; offset = f .element .place })
+      lookup-comes f q =
+          let a = lookup-first (f .element) .0 (f .value, q) .among in
+          rw (among-yields limit d _ a .placed) (comes-from (a .offset) (a .from))
 
       -- ---- lookups
 

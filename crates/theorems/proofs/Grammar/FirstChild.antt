@@ -4,11 +4,11 @@ use mathlib.Core.Path.{_≡_, refl, sym, ap, _∙_}
 use mathlib.Core.List.{List}
 use mathlib.Core.Bool.{cond}
 use mathlib.Core.Option.{Option, none, some}
-use Rattle.bson.specs.Answer.{Answer, gives, refuses}
+use Rattle.bson.specs.Answer.{Answer, gives, refuses, then}
 use Rattle.bson.specs.Bytes.{AreBytes, bytes, same}
 use Rattle.bson.specs.Step.{terminator, Element, past, iterate}
 use Rattle.bson.specs.Value.{Value}
-use Rattle.bson.specs.Lookup.{Found, found, first, get, getBytesUnder, getUnder}
+use Rattle.bson.specs.Lookup.{Found, found, first, findUnder, get, getBytesUnder, getUnder}
 use Rattle.bson.specs.Grammar.{nestBytes, Elements}
 use Rattle.bson.specs.Meaning.{Holding, holding, Yields, MeansFrom, ends, yields, opens, Means}
 use Rattle.laws.proofs.Common.{split}
@@ -35,8 +35,8 @@ module _ (d : List ℕ) (key : List ℕ) where
   -- a child in front is answered where it has the key, else what comes behind it
   in-front : {offset : ℕ} {k : List ℕ} {tag : ℕ} {h : Holding} {e : Element} → Yields d offset k tag h e → (c : Child) → tag ≡ childTag c
       → bytes d (e .value) ≡ childBytes c → ((v : Value) → holding d v ≡ h → Is d v c)
-      → (o : Option Child) → Answered d o (first d key (iterate d (past e)))
-      → Answered d (cond (same key k) (some c) o) (first d key (iterate d offset))
+      → (o : Option Child) → Answered d o (then (first d key (iterate d (past e))) (found d))
+      → Answered d (cond (same key k) (some c) o) (then (first d key (iterate d offset)) (found d))
   unfolding found
   in-front {offset} {k} {e = e} y c t b v o rest =
       let reads = sym (read-step unlimited d offset e (y .steps)) ∙ y .reads in
@@ -51,7 +51,8 @@ module _ (d : List ℕ) (key : List ℕ) where
       }))
       (λ q. rw q rest))
 
-  looks-from : (offset : ℕ) (t : Elements) → AreBytes d → MeansFrom d offset t → Answered d (childOf key t) (first d key (iterate d offset))
+  looks-from : (offset : ℕ) (t : Elements) → AreBytes d → MeansFrom d offset t
+      → Answered d (childOf key t) (then (first d key (iterate d offset)) (found d))
   looks-from offset t a (ends q x) = rw (iterate-eq unlimited d offset, x)
   looks-from offset t a (yields {item = i} {rest = rest} e y m) =
       in-front y (item i) refl (yields-codes a y .value) (λ v q. q) _ (looks-from (past e) rest a m)
@@ -66,5 +67,5 @@ module _ (d : List ℕ) (key : List ℕ) where
   looks-by none s = s
 
 pub lookup-child : (d : List ℕ) (t : Elements) → AreBytes d → Means d t → (key : List ℕ) → LooksUp d key (childOf key t)
-unfolding getUnder
+unfolding getUnder findUnder
 lookup-child d t a m key = looks-by d key (childOf key t) (looks-from d key 4 t a m)

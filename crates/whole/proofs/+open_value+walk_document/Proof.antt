@@ -20,12 +20,12 @@ use Rattle.laws.proofs.AnswerLaws.{answered}
 use Rattle.laws.proofs.Common.{rest-part}
 use Rattle.laws.proofs.BytesLaws.{slice-part}
 use Rattle.laws.proofs.StepLaws.{step-yields}
-use Rattle.laws.proofs.AdvanceLaws.{next-lands}
+use Rattle.laws.proofs.AdvanceLaws.{refused-before, next-lands}
 use Rattle.laws.proofs.CheckLaws.{opened-count}
 use Rattle.visit.specs.Said.{saidLevel}
 use Rattle.whole.specs.Said.{said}
 use Rattle.visit.specs.declared.Visited.the-variants.{Is}
-use Rattle.whole.proofs.Walk.{refused-before, yields-placed, opened-refused, opened-closed, opened-inside, opened-keyed}
+use Rattle.whole.proofs.Walk.{yields-placed, opened-refused, opened-closed, opened-inside, opened-keyed}
 use Rattle.whole.proofs.Walk.{opened-bad-key, Asked, asked-passes, not-asked, Enters, enters}
 use Rattle.whole.proofs.Walk.{visited-is, visited-refused, LeftFrom, left-first, left-ends, left-refused, left-value-refused}
 use Rattle.whole.proofs.Walk.{left-onward}
