@@ -19,7 +19,7 @@ sys.path.insert(0, str(ROOT / "tools"))
 from rules import documents as making
 from rules import rules, writing
 from rules.documents import ARRAY, NULL, SCOPE, bytes_to_try, doc, element, in_a_scope, in_an_array, keyed, limited, nested, nulls, positions
-from rules.documents import scope_below, settled
+from rules.documents import scope_below, settled, settled_paths
 from rules.questions import all_questions
 from rules.rules import Refused
 
@@ -65,8 +65,11 @@ def steps(s, limit):
         yield words("at", offset, "refused", r.kind(), r.place, r.number)
 
 
-def found(s, limit, *ask):
-    e, value = (rules.get if len(ask) == 1 else rules.get_with)(s, *ask, limit)
+LOOKUPS = {"get": rules.get, "typed": rules.get_with, "path": rules.path, "path-typed": rules.path_with}
+
+
+def found(s, limit, word, *ask):
+    e, value = LOOKUPS[word](s, *ask, limit)
     return e.place, *value
 
 
@@ -90,7 +93,7 @@ def line(d, asks, limit):
     parts.append(words("check", answer(lambda: (rules.check(d, False, limit),))))
     parts.append(words("strict", answer(lambda: (rules.check(d, True, limit),))))
     parts.append(words("empty", answer(lambda: ("yes" if rules.is_empty(d) else "no",))))
-    parts += [words(asked(*ask), answer(found, d, limit, *ask[1:])) for ask in asks]
+    parts += [words(asked(*ask), answer(found, d, limit, *ask)) for ask in asks]
     return "; ".join(parts)
 
 
@@ -103,7 +106,7 @@ def without_marks(text):
 
 
 # how many fields the parts have that the oracle may leave without an answer, since the Rust may have no such call
-UNASKED = {"strict": 1, "get": 2, "typed": 3}
+UNASKED = {"strict": 1, "get": 2, "typed": 3, "path": 2, "path-typed": 3}
 
 
 def part_said(ours, theirs):
@@ -161,6 +164,8 @@ NUMBERS = {
     "empty": {1, 2, 3},
     "get": {*range(1, 13), 16},
     "typed": {*range(1, 13), 16, 17},
+    "path": {*range(1, 13), 16, 17, 21},
+    "path-typed": {*range(1, 13), 16, 17, 21},
 }
 
 
@@ -281,6 +286,16 @@ def try_lookups():
             assert sum(is_so(*get) for get in gets) >= 12, is_so.__name__
 
 
+def try_paths():
+    """The rules say what is settled of paths, and each such path is asked in the list."""
+    asks_of = {(d, limit): asks for d, asks, limit in listed()}
+    for d, limit, path, said in settled_paths():
+        r = refusal(rules.path, d, path, limit)
+        result = f"{r.number} at {r.place}" if r.number else answer(found, d, limit, "path", path)
+        assert result == said, (d.hex(), limit, path.hex(), result)
+        assert ("path", path) in asks_of[d, limit], (d.hex(), limit, path.hex())
+
+
 # the numbers that each call of the writer can return
 RETURNED = {call: {0, 13, 14, 15, 18} for call in (*writing.VALUES, *writing.NESTS)} | {"open": {0, 14, 18}, "close": {0, 18}}
 
@@ -354,6 +369,7 @@ def main():
     try_documents(lines[:plain], NUMBERS)
     try_documents(lines[plain:], {call: under_limit(numbers) for call, numbers in NUMBERS.items()})
     try_lookups()
+    try_paths()
     try_sessions()
     try_written()
     made = files(confirm(lines, oracle) if oracle else lines)

@@ -1,7 +1,8 @@
-"""The documents of the list: bytes for every class, boundary and kind of damage, with the keys that are looked up in them.
+"""The documents of the list: bytes for every class, boundary and kind of damage, with the keys and paths that are looked up in them.
 
-Each group is a generator of (document, asks); an ask is ("get", key) or ("typed", key, tag). The groups under a limit have it in front. Nothing here
-says an answer, but for RULES.md, "Bytes to try", whose results stand beside them as that page has them, and for the settled points of a limit.
+Each group is a generator of (document, asks); an ask is ("get", key), ("typed", key, tag), ("path", path) or ("path-typed", path, tag).
+The groups under a limit have it in front. Nothing here says an answer, but for RULES.md, "Bytes to try", whose results stand beside them as
+that page has them, and for the settled points of paths and of a limit.
 """
 import re
 
@@ -48,6 +49,19 @@ def gets(*keys):
 
 def typed(key, *tags):
     return [("typed", raw(key), tag) for tag in tags]
+
+
+def along(*keys):
+    """A path: the keys with a zero byte between them."""
+    return b"\0".join(map(raw, keys))
+
+
+def paths(*paths):
+    return [("path", path) for path in paths]
+
+
+def typed_paths(path, *tags):
+    return [("path-typed", path, tag) for tag in tags]
 
 
 BATTERY = element(INT32, "battery", le(87))
@@ -132,9 +146,16 @@ def bytes_to_try():
     yield nested(202), "13 at 1210"
 
 
+MOST_KEYS = along(*[""] * 201)
+TOO_MANY = along(*[""] * 202)
+# in bytes of every sort: one key, two, three, the most and one more
+ANYWHERE = paths(b"", b"a", along("", ""), along("", "", "a"), MOST_KEYS, TOO_MANY)
+ANYWHERE += typed_paths(b"", 0x08, INT32) + typed_paths(b"a", 0x08) + typed_paths(TOO_MANY, NULL)
+
+
 def tried():
     for d, _ in bytes_to_try():
-        yield d, gets("", "a")
+        yield d, gets("", "a") + ANYWHERE
 
 
 # ---- good documents
@@ -477,6 +498,125 @@ def array_orders():
 ARRAYS = (long_arrays, array_keys, array_levels, array_orders)
 
 
+# ---- paths into nested documents
+
+# the settled points: a limit or none, a path, a document, and the result: the element's place and its value, or the number and the place
+SETTLED_PATHS = """70 in 10 00 00 00 04 70 00 08 00 00 00 0A 30 00 00 00 = 4 array 7 8
+70 00 30 in 10 00 00 00 04 70 00 08 00 00 00 0A 30 00 00 00 = 11 null
+70 00 31 in 10 00 00 00 04 70 00 08 00 00 00 0A 30 00 00 00 = 16 at 14
+70 00 in 10 00 00 00 04 70 00 08 00 00 00 0A 30 00 00 00 = 16 at 14
+70 00 30 00 in 10 00 00 00 04 70 00 08 00 00 00 0A 30 00 00 00 = 17 at 11
+00 70 00 30 in 10 00 00 00 04 70 00 08 00 00 00 0A 30 00 00 00 = 16 at 15
+ in 0E 00 00 00 03 00 07 00 00 00 0A 00 00 00 = 4 document 6 7
+00 in 0E 00 00 00 03 00 07 00 00 00 0A 00 00 00 = 10 null
+00 00 in 0E 00 00 00 03 00 07 00 00 00 0A 00 00 00 = 17 at 10
+61 00 62 in 11 00 00 00 03 61 00 09 00 00 00 08 62 00 02 00 00 = 11 at 11
+61 00 62 00 63 in 11 00 00 00 03 61 00 09 00 00 00 08 62 00 02 00 00 = 11 at 11
+61 in 19 00 00 00 0F 61 00 11 00 00 00 01 00 00 00 00 08 00 00 00 0A 62 00 00 00 = 4 codewithscope 15 0 16 8
+61 00 62 in 19 00 00 00 0F 61 00 11 00 00 00 01 00 00 00 00 08 00 00 00 0A 62 00 00 00 = 17 at 4
+2: 61 00 62 62 in 11 00 00 00 03 61 00 09 00 00 00 0A 62 62 00 00 00 = 11 null
+2: 61 00 62 62 62 in 11 00 00 00 03 61 00 09 00 00 00 0A 62 62 00 00 00 = 16 at 15
+1: 61 00 62 62 in 11 00 00 00 03 61 00 09 00 00 00 0A 62 62 00 00 00 = 22 at 11
+0: 61 00 62 62 in 11 00 00 00 03 61 00 09 00 00 00 0A 62 62 00 00 00 = 22 at 4"""
+
+
+def settled_paths():
+    """The table: each document, its limit, the path and the result. Under empty keys the element of depth k lies at 4 + 6 k."""
+    for row in SETTLED_PATHS.split("\n"):
+        limit, path, hexes, result = re.fullmatch("(?:(.*): )?(.*) ?in (.*) = (.*)", row).groups()
+        yield bytes.fromhex(hexes), limit and int(limit), bytes.fromhex(path), result
+    yield nested(201), None, MOST_KEYS, "1204 document 1206 5"
+    yield nested(202), None, TOO_MANY, "21 at 0"
+    yield b"\5\0\0\0", None, MOST_KEYS, "1 at 0"
+    yield b"\5\0\0\0", None, TOO_MANY, "21 at 0"
+
+
+def asks_settled():
+    """Each limit or none and document of the table, with all their paths."""
+    asks = {}
+    for d, limit, path, _ in settled_paths():
+        asks.setdefault((limit, d), []).extend(paths(path))
+    return asks.items()
+
+
+def path_points():
+    return ((d, asks) for (limit, d), asks in asks_settled() if limit is None)
+
+
+def way(*keys, innermost=BATTERY):
+    """Documents and arrays by turns, each between other values under the next of the keys; an element in the innermost."""
+    d = doc(element(NULL, "z"), innermost)
+    for i, key in reversed([*enumerate(keys)]):
+        d = doc(element(NULL, "z"), element((DOCUMENT, ARRAY)[i % 2], key, d), element(NULL, "y"))
+    return d
+
+
+def path_levels():
+    """The path to each level, a key that is missing there, one more key behind it, and empty keys before, between and behind."""
+    for keys in (("a",), ("power", "cells", "0", "b"), ("", "a", "", ""), ("a", "a", "a", "a"), ("0", "10", "00", "1")):
+        steps = [keys[:i] for i in range(1, len(keys) + 1)] + [(*keys, "battery")]
+        missing = [(*step[:-1], "absent", *keys) for step in steps] + [(*keys, b"\xff"), (b"\xff", *keys[1:])]
+        behind = [(*step, "y") for step in steps]
+        empty = [("", *keys), (*keys, ""), (*keys, "", ""), (*keys[:1], "", *keys[1:], "battery"), ("", ""), ("",)]
+        asks = paths(*dict.fromkeys(along(*path) for path in [*steps, *missing, *behind, *empty]))
+        yield way(*keys), asks + typed_paths(along(*keys, "battery"), INT32, 0x12)
+
+
+def path_lengths():
+    """As many keys as a path may have, and one more, in documents and arrays of so many levels; and one key of more bytes than that."""
+    for tag, key in ((DOCUMENT, ""), (ARRAY, "0")):
+        for k in (200, 201):
+            keys = [key] * k
+            most = [along(*keys[:200], "battery"), along(*keys[:200], "absent"), along(*keys[:199], "absent", key), along(*keys[:201])]
+            asks = paths(*most, along(*keys, "battery")) + typed_paths(along(*keys[:200], "battery"), INT32, NULL)
+            yield nested(k, tag, key, doc(element(NULL, "z"), BATTERY)), asks
+    long = along("k" * 202), along("k" * 203), along("k", *[""] * 199, "k"), along("k", *[""] * 200, "k")
+    yield doc(element(NULL, "k" * 202), BATTERY), paths(*long)
+    yield BATTERY, paths(*long, MOST_KEYS, TOO_MANY)
+
+
+def path_types():
+    """Each type as the last value, and on the way, where its own refusals come first and a scope is not entered."""
+    for tag, value in [*SAMPLED, *DAMAGES]:
+        d = doc(element(NULL, "n"), element(DOCUMENT, "d", framed(tag, value)), BATTERY)
+        asks = paths(along("d", "a"), along("d", "a", "y"), along("d", "a", "battery"), along("d", "battery"), along("d", "absent"))
+        yield d, asks + typed_paths(along("d", "a"), tag, INT32) + typed_paths(along("d", "a", "b"), 0x08)
+    for code, scope in [(code, SCOPES[0]) for code in CODES] + [(CODES[0], scope) for scope in SCOPES[1:]]:
+        d = doc(element(ARRAY, "d", coded(code, scope)))
+        yield d, paths(along("d", "a"), along("d", "a", "battery"), along("d", "a", "y"), along("d", "battery"))
+
+
+def beside(e, other, side):
+    """A document of an element, with the other before it or behind it, or without the other."""
+    return doc(*{"before": [other, e], "behind": [e, other], "": [e]}[side])
+
+
+def path_damage():
+    """Damage before and behind the way, at each of three levels."""
+    asks = paths(along("a"), along("a", "absent"), along("a", "0"), *(along("a", "0", key) for key in ("battery", "absent", "x")))
+    for tag, value in DAMAGES:
+        bad = element(tag, "x", value)
+        for side in ("before", "behind"):
+            for top, middle, inner in ((side, "", ""), ("", side, ""), ("", "", side)):
+                array = beside(element(DOCUMENT, "0", beside(BATTERY, bad, inner)), bad, middle)
+                yield beside(element(ARRAY, "a", array), bad, top), asks
+
+
+def path_arrays():
+    """An array of eleven documents, by its keys; and repeated keys, where the other can't be entered or is damaged."""
+    cells = [element(DOCUMENT, str(i), doc(element(INT32, "mv", le(4100 + i)))) for i in range(11)]
+    keys = ("0", "1", "9", "10", "11", "00", "01", "-1", "")
+    asks = paths(*(along("cells", key, "mv") for key in keys), along("cells", "10"), along("0", "mv"))
+    yield doc(element(ARRAY, "cells", doc(*cells))), asks
+    first, second = element(DOCUMENT, "a", doc(BATTERY)), element(ARRAY, "a", doc(element(NULL, "y")))
+    null, bad = element(NULL, "a"), element(0x08, "a", b"\2")
+    for parts in ([first, second], [second, first], [null, first], [first, null], [first, bad], [bad, first]):
+        yield doc(*parts), paths(along("a"), along("a", "battery"), along("a", "y"))
+
+
+PATHS = (path_points, path_levels, path_lengths, path_types, path_damage, path_arrays)
+
+
 # ---- a beacon frame, battery first
 
 
@@ -498,9 +638,13 @@ def short_beacon():
     )
 
 
+IN_BEACON = [along("power", *keys) for keys in (["battery"], ["cells", "3"], ["cells", "4"], ["absent"])] + [along("call", "x")]
+
+
 def beacons():
     d = short_beacon()
-    yield d, gets("battery", "note", "power", "load", "fault") + typed("battery", *GETTERS) + typed("power", DOCUMENT)
+    asks = gets("battery", "note", "power", "load", "fault") + typed("battery", *GETTERS) + typed("power", DOCUMENT)
+    yield d, asks + paths(*IN_BEACON) + typed_paths(IN_BEACON[0], *GETTERS)
     for i in range(4, len(d), 3):
         yield d[:i] + bytes([d[i] ^ 0x20]) + d[i + 1 :], gets("battery", "note")
 
@@ -546,7 +690,7 @@ def randoms():
 
 GROUPS = (
     tried, good_values, booleans, admissions, lengths, cuts, changed, zeros, tags, fixed_ends,
-    texts, codes_with_scope, nesting, inner_damage, lookups, *ARRAYS, beacons, randoms,
+    texts, codes_with_scope, nesting, inner_damage, lookups, *ARRAYS, *PATHS, beacons, randoms,
 )
 
 
@@ -626,7 +770,7 @@ def any_limits():
     """The bytes to try, some of which are not admitted, under limits that say nothing of most."""
     for d, _ in bytes_to_try():
         for limit in (0, 1, 2**64 - 1):
-            yield limit, d, gets("", "a") + typed("a", 0x08)
+            yield limit, d, gets("", "a") + typed("a", 0x08) + ANYWHERE
 
 
 def key_limits():
@@ -700,14 +844,43 @@ def damage_limits():
                 yield limit, doc(*parts), gets("battery", "x", "absent") + typed("battery", INT32, 0x02)
 
 
+def path_point_limits():
+    return ((limit, d, asks) for (limit, d), asks in asks_settled() if limit is not None)
+
+
+def path_limits():
+    """A way through keys of several sizes, under limits around each: the keys of the path may be longer, those of the documents may not."""
+    keys = ("to", "the", "last")
+    first, longer = element(DOCUMENT, "to", way("the")), element(NULL, "longer key")
+    ways = [way(*keys), way(*keys, innermost=longer), way(*keys[:2], innermost=element(0x0B, "last", b"pattern\0im\0"))]
+    ways += [beside(first, longer, "before"), beside(first, longer, "behind")]
+    ends = [keys[:1], keys[:2], keys, (*keys, "battery"), (*keys, "longer key"), ("longer key", "a"), (*keys[:2], "longer key", "a")]
+    asks = paths(*(along(*path) for path in [*ends, (*keys[:2], "battery")])) + typed_paths(along(*keys), DOCUMENT, 0x0B)
+    for d in ways:
+        for limit in around(1, 3, 4, 7, 10):
+            yield limit, d, asks
+
+
+def path_type_limits():
+    """Each type on the way and behind it, beside a key that is too long, or just not."""
+    asks = paths(along("d", "a"), along("d", "a", "y"), along("d", "battery"))
+    for tag, value in [*SAMPLED, *DAMAGES]:
+        for limit in (6, 7):
+            yield limit, doc(element(DOCUMENT, "d", framed(tag, value))), asks
+
+
+PATH_LIMITS = (path_point_limits, path_limits, path_type_limits)
+
+
 def beacon_limits():
     for limit in (0, *around(4, 7)):
-        yield limit, short_beacon(), gets("battery", "note", "power", "uptime", "fault") + typed("battery", INT32) + typed("power", DOCUMENT)
+        asks = gets("battery", "note", "power", "uptime", "fault") + typed("battery", INT32) + typed("power", DOCUMENT)
+        yield limit, short_beacon(), asks + paths(*IN_BEACON) + typed_paths(IN_BEACON[0], INT32)
 
 
 LIMITED = (
     settled_limits, any_limits, key_limits, text_limits, regex_limits, type_limits, scope_limits, nested_limits, array_limits, damage_limits,
-    beacon_limits,
+    *PATH_LIMITS, beacon_limits,
 )
 
 

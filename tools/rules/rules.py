@@ -1,5 +1,5 @@
-"""The rules for reading, with the limit on zero-ended texts (request 2), written from the text of docs/RULES.md: what every call must answer,
-with number and place.
+"""The rules for reading, with paths (request 1) and the limit on zero-ended texts (request 2), written from the text of docs/RULES.md:
+what every call must answer, with number and place.
 
 A function gives its answer or raises Refused. Where no limit is named there is none. UTF-8 is judged by Python's own decoder, which follows RFC 3629.
 """
@@ -7,7 +7,7 @@ from collections import namedtuple
 
 Element = namedtuple("Element", "place tag key offset size")  # offset and size are those of the framed value
 
-KINDS = {6: "utf8", 13: "recursion", 16: "not-present", 17: "unexpected-type", 19: "added", 22: "too-long"}
+KINDS = {6: "utf8", 13: "recursion", 16: "not-present", 17: "unexpected-type", 19: "added", 21: "added", 22: "too-long"}
 
 
 class Refused(Exception):
@@ -31,6 +31,14 @@ def at(place, rule, *args):
         return rule(*args)
     except Refused as refused:
         raise Refused(refused.number, place) from None
+
+
+def inside(rule, s, offset, size, *args):
+    """The rule's answer about a part of s; its refusal, with a place that counts from the first byte of s."""
+    try:
+        return rule(s[offset : offset + size], *args)
+    except Refused as refused:
+        raise Refused(refused.number, offset + refused.place) from None
 
 
 # ---- numbers, UTF-8 and zero-ended texts
@@ -283,6 +291,39 @@ def is_empty(s):
     return admit(s) == 5
 
 
+# ---- lookup by a path
+
+MOST_KEYS = 201
+
+
+def get_inside(s, offset, size, key, limit):
+    """The lookup in a document within s: the element as it lies in s, and its value."""
+    e, _ = inside(get, s, offset, size, key, limit)
+    e = e._replace(place=offset + e.place, offset=offset + e.offset)
+    return e, value_of(s, e)
+
+
+def entered(e, value):
+    """Offset and size of the document or the array that a value on the way is."""
+    word, *part = value
+    unless(word in ("document", "array"), 17, e.place)
+    return part
+
+
+def path(s, keys, limit=None):
+    """One lookup after another, by keys with a zero byte between them: all but the last find what is entered. No limit is on these keys."""
+    *way, last = keys.split(b"\0")
+    unless(len(way) < MOST_KEYS, 21)
+    offset, size = 0, len(s)
+    for key in way:
+        offset, size = entered(*get_inside(s, offset, size, key, limit))
+    return get_inside(s, offset, size, last, limit)
+
+
+def path_with(s, keys, tag, limit=None):
+    return with_tag(*path(s, keys, limit), tag)
+
+
 # ---- the whole check
 
 # what opens, and how much deeper its values lie
@@ -302,14 +343,6 @@ def visit(s, e, depth, position):
     return value
 
 
-def inside(s, offset, size, *level):
-    """The walk of a document within s; places count from the first byte of s."""
-    try:
-        return walk(s[offset : offset + size], *level)
-    except Refused as refused:
-        raise Refused(refused.number, offset + refused.place) from None
-
-
 def walk(s, depth, array, strict, limit):
     """How many values there are in a document and below it. The strict check asks for the keys of arrays."""
     count = 0
@@ -318,7 +351,7 @@ def walk(s, depth, array, strict, limit):
         count += 1
         if word in OPENS:
             offset, size = numbers[-2:]
-            count += inside(s, offset, size, depth + OPENS[word], word == "array", strict, limit)
+            count += inside(walk, s, offset, size, depth + OPENS[word], word == "array", strict, limit)
     return count
 
 

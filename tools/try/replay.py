@@ -17,7 +17,7 @@ from rules.writing import every_type, needed, session
 EVERY = 40  # one document of the list in so many
 EVERY_LIMITED = 8  # of those under a limit
 # how many fields of a part say what is asked: another key or tag might have the same answer, so these are made unreadable
-ASKED = {"get": 2, "typed": 3}
+ASKED = {"get": 2, "typed": 3, "path": 2, "path-typed": 3}
 
 
 def compared(fields):

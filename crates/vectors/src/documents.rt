@@ -2,6 +2,8 @@
 // compared.
 use crate::lookups::answer_get;
 use crate::lookups::answer_typed;
+use crate::paths::answer_path;
+use crate::paths::answer_path_typed;
 use crate::progress::Progress;
 use crate::steps::answer_step;
 use crate::steps::first_step;
@@ -47,7 +49,10 @@ fn answer_empty(answer: &[u8], document: &[u8]) -> bool {
 
 // Who answers a part, by the number of its word. A part of any other word differs.
 fn answer_part(answer: &[u8], document: &[u8], limit: usize, progress: Progress) -> Progress {
-    match word_number(b"admission at check strict empty get typed", answer) {
+    match word_number(
+        b"admission at check strict empty get typed path path-typed",
+        answer,
+    ) {
         1 => progress.with_answer(answer_admission(answer, document)),
         2 => answer_step(answer, document, limit, progress),
         3 => progress.with_answer(answer_check(answer, whole::check_under(document, limit))),
@@ -55,6 +60,8 @@ fn answer_part(answer: &[u8], document: &[u8], limit: usize, progress: Progress)
         5 => progress.with_answer(answer_empty(answer, document)),
         6 => progress.with_answer(answer_get(answer, document, limit)),
         7 => progress.with_answer(answer_typed(answer, document, limit)),
+        8 => progress.with_answer(answer_path(answer, document, limit)),
+        9 => progress.with_answer(answer_path_typed(answer, document, limit)),
         _ => progress.with_answer(false),
     }
 }

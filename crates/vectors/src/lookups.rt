@@ -13,7 +13,7 @@ use crate::values::is_value;
 use document::Found;
 
 // `PLACE VALUE`, or a refusal.
-fn is_found(said: &[u8], found: Found) -> bool {
+pub fn is_found(said: &[u8], found: Found) -> bool {
     match found {
         Found::Refused { number, place } => is_refusal(said, place, number),
         Found::Is { element, value } => {
@@ -23,7 +23,7 @@ fn is_found(said: &[u8], found: Found) -> bool {
 }
 
 // The framed bytes of the element found; none where the lookup refuses.
-fn framed<'a>(document: &'a [u8], found: Found) -> &'a [u8] {
+pub fn framed<'a>(document: &'a [u8], found: Found) -> &'a [u8] {
     match found {
         Found::Refused {
             number: _,

@@ -4,6 +4,7 @@
 mod documents;
 mod getters;
 mod lookups;
+mod paths;
 mod places;
 mod progress;
 mod questions;

@@ -1,0 +1,3 @@
+pub mod Keys
+pub mod Levels
+pub mod Determined
