@@ -1,5 +1,6 @@
 // Takes turns of a row of bench/rows.py on this library, and yields before and behind them, where bench/instructions.c writes its count.
-// usage: count TASK DOCUMENT KEY TURNS     by bench/count; prints the answer of a turn, as bench/beside_rust/src/side.rs describes it
+// usage: count TASK DOCUMENT KEY TURNS     by bench/count; of a path KEY is two keys with a dot between them. Prints the answer of a turn,
+//        as bench/beside_rust/src/side.rs describes it
 #include <inttypes.h>
 #include <sched.h>
 #include <stdio.h>
@@ -20,8 +21,9 @@ struct piece {
 struct row {
     uint64_t (*turn)(const struct row *row);
     size_t length;
-    const uint8_t *key;
+    const uint8_t *key; // or a path
     size_t key_size;
+    size_t first_size; // of a path, its first key
     size_t count;
     struct piece pieces[PIECES];
 };
@@ -119,6 +121,24 @@ static uint64_t lookup(const struct row *row)
 {
     fringewell_value found = fringewell_lookup(document, row->length, row->key, row->key_size);
     need(found.number == FRINGEWELL_OK, "the key is found");
+    return found.tag + held(&found);
+}
+
+static uint64_t path(const struct row *row)
+{
+    fringewell_value found = fringewell_path(document, row->length, row->key, row->key_size);
+    need(found.number == FRINGEWELL_OK, "the path leads to a value");
+    return found.tag + held(&found);
+}
+
+// the same in two calls, the second in the part that the first gives
+static uint64_t path_by_lookups(const struct row *row)
+{
+    size_t behind = row->first_size + 1;
+    fringewell_value outer = fringewell_lookup(document, row->length, row->key, row->first_size);
+    need(outer.number == FRINGEWELL_OK && outer.tag == FRINGEWELL_TAG_DOCUMENT, "the first key leads to a document");
+    fringewell_value found = fringewell_lookup(document + outer.offset, outer.size, row->key + behind, row->key_size - behind);
+    need(found.number == FRINGEWELL_OK, "the second key is found");
     return found.tag + held(&found);
 }
 
@@ -221,21 +241,32 @@ static const struct {
     uint64_t (*turn)(const struct row *row);
 } tasks[] = {
     {"iterate", iterate}, {"read_at_place", read_at_place}, {"check", check}, {"check_strict", check_strict}, {"lookup", lookup},
-    {"build", build},     {"build_tested", build},
+    {"path", path},       {"path_by_lookups", path_by_lookups}, {"build", build}, {"build_tested", build},
 };
 
-static void prepare(struct row *row, const char *task, const char *path, const char *key)
+// a zero byte for the dot of a path
+static void split(struct row *row, char *key)
+{
+    char *dot = strchr(key, '.');
+    need(dot != NULL, "a path has two keys");
+    *dot = 0;
+    row->first_size = (size_t)(dot - key);
+}
+
+static void prepare(struct row *row, const char *task, const char *file_name, char *key)
 {
     for (size_t i = 0; i < sizeof tasks / sizeof *tasks; i++)
         if (!strcmp(task, tasks[i].name))
             row->turn = tasks[i].turn;
     need(row->turn != NULL, "the task is known");
-    FILE *file = fopen(path, "rb");
+    FILE *file = fopen(file_name, "rb");
     need(file != NULL, "the document can be opened");
     row->length = fread(document, 1, MOST, file);
     fclose(file);
     row->key = (const uint8_t *)key;
     row->key_size = strlen(key);
+    if (row->turn == path || row->turn == path_by_lookups)
+        split(row, key);
     if (row->turn == build)
         collect(row, document, row->length);
 }

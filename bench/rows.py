@@ -3,7 +3,8 @@
 
 usage: bench/rows.py FOLDER     writes the documents there, the lists `rows` and `growth`, and `notes`: what the names stand for
 
-A line of a list is a row: its task, its document, its key, which is empty where nothing is looked up, and its name, with tabs between them.
+A line of a list is a row: its task, its document, its key, which is empty where nothing is looked up, or the two keys of a path with a dot
+between them, and its name, with tabs between them.
 """
 import os
 import struct
@@ -29,6 +30,7 @@ SHORT_TEXTS = {
     "40 bytes of ASCII": "The battery is at 7412 mV, and charging.",
     "29 bytes of Cyrillic": "Спутник: в норме",
 }
+PATH = "power.battery"  # what the panel shows
 NUMBERS = 200  # in the array
 GROWING = [2**power // 20 for power in range(10, 21, 2)]  # elements of about 20 bytes: 1 KB to 1 MB
 
@@ -99,6 +101,8 @@ def rows():
         Row("lookup", "beacon", keys[0], "beacon: lookup, first key"),
         Row("lookup", "beacon", middle, "beacon: lookup, middle key"),
         Row("lookup", "beacon", keys[-1], "beacon: lookup, last key"),
+        Row("path", "beacon", PATH, "beacon: path of two keys"),
+        Row("path_by_lookups", "beacon", PATH, "beacon: the same by two lookups"),
         Row("build", "writable", "", "beacon: build, from bytes"),
         Row("build_tested", "writable", "", "beacon: build, Rust's texts tested"),
         Row("build", "numbers", "", f"array of {NUMBERS} numbers: build"),
@@ -127,6 +131,10 @@ iterate and read: every step and every value of the top, by Fringewell with one 
 in it and in lookups libbson tests no UTF-8.
 read at each place: the same, but Fringewell steps by fringewell_step, and reads by fringewell_read, which steps
 to the element a second time.
+path of two keys: {PATH.replace(".", ", then ")}; by Fringewell with one call, fringewell_path, by the Rust with
+get_document and get, by libbson with bson_iter_find_descendant.
+the same by two lookups: Fringewell looks up the first key, and the second in the part that the first gave; the
+others do as in the row before.
 strict check: only Fringewell asks for the keys of arrays; the others check as in the row before.
 build: without the beacon's code with scope, which the writer does not write. Fringewell tests each key and
 text, and makes the keys of arrays; the Rust tests those that come as bytes, and has none to test where they

@@ -128,11 +128,11 @@ function opening(count,    i, text, name) {
   section("version, numbers and tags")
 }
 
-# skipped: what other machines and C++ get, guards and the like, macros that are gone at the end of the header, and bodies
+# skipped: what other machines and C++ get, guards and the like, macros that are for other macros here, and bodies
 /^#if(def)? / { conditional = 1 }
 conditional { conditional = !/^#endif/; next }
 /^#(ifndef|endif|undef|include) ?/ || /^#define FRINGEWELL_H$/ { next }
-/^#define FRINGEWELL_(LENT|WRITE)\(/ { internal = 1 }
+/^#define FRINGEWELL_(LENT|WRITE|NINTH|KEYS[_0-9]*)\(/ { internal = 1 }
 internal { internal = /\\$/; next }
 body { body = !/^[}]/; next }
 

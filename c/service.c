@@ -1,5 +1,6 @@
-/* A ground station's service: takes one frame from standard input, checks it under a limit on key length, looks up its battery, and joins
- * the receiver's own fields behind it. Exit status: 0 the frame is shown, 1 it is refused, 2 it could not be read or joined. */
+/* A ground station's service: takes one frame from standard input, checks it under a limit on key length, looks up the battery under
+ * `power`, and joins the receiver's own fields behind it. Exit status: 0 the frame is shown, 1 it is refused, 2 it could not be read or
+ * joined. */
 #include <fringewell.h>
 #include <inttypes.h>
 #include <stdio.h>
@@ -15,13 +16,13 @@ static int refused(uint32_t number, size_t place) {
 static void show_battery(const uint8_t *frame, size_t length) {
     int32_t millivolts;
     double volts;
-    uint32_t number = fringewell_get_int32(frame, length, FRINGEWELL_TEXT("battery"), &millivolts);
+    uint32_t number = fringewell_path_int32(frame, length, FRINGEWELL_PATH("power", "battery"), &millivolts);
     if (number == FRINGEWELL_OK) {
         printf("battery: %" PRId32 " mV\n", millivolts);
         return;
     }
     if (number == FRINGEWELL_OTHER_TYPE) {
-        number = fringewell_get_double(frame, length, FRINGEWELL_TEXT("battery"), &volts);
+        number = fringewell_path_double(frame, length, FRINGEWELL_PATH("power", "battery"), &volts);
     }
     if (number == FRINGEWELL_OK) {
         printf("battery: %.3f V\n", volts);

@@ -111,6 +111,8 @@ static inline void refused_under(const uint8_t *document, size_t length, size_t 
     EXPECT_VERDICT(fringewell_check_strict_under(document, length, limit), number, 4, 0);
     EXPECT_NO_VALUE(fringewell_lookup_under(document, length, TEXT("q"), limit), number, 4);
     EXPECT_NO_VALUE(fringewell_lookup_typed_under(document, length, TEXT("q"), FRINGEWELL_TAG_NULL, limit), number, 4);
+    EXPECT_NO_VALUE(fringewell_path_under(document, length, TEXT("q\0q"), limit), number, 4);
+    EXPECT_NO_VALUE(fringewell_path_typed_under(document, length, TEXT("q\0q"), FRINGEWELL_TAG_NULL, limit), number, 4);
     EXPECT_NO_ELEMENT_UNDER(document, length, 4, false, limit, number, 4);
     EXPECT_NO_VALUE(fringewell_read_under(document, length, 4, limit), number, 4);
 }

@@ -34,6 +34,28 @@ static bool checked_under(const uint8_t *document, size_t length, fringewell_ver
     return good;
 }
 
+/* Paths that end where the page does, into the document, the array and the scope of `every_type`, and to its last element. What is found is
+ * what is read at its place, and under a limit the same, if anything. */
+static bool led(const uint8_t *document, size_t length) {
+    static const uint8_t paths[][3] = {{'c', 0, 'x'}, {'d', 0, '0'}, {'o', 0, 'y'}, {0, 0, 'u'}};
+    bool good = true;
+    for (size_t p = 0; p < sizeof paths / sizeof *paths; p++) {
+        size_t size = paths[p][0] == 0 ? 1 : 3;
+        const uint8_t *path = key_end - size;
+        memcpy(key_end - 3, paths[p], 3);
+        fringewell_value value = fringewell_path(document, length, path, size);
+        fringewell_value typed = fringewell_path_typed(document, length, path, size, value.tag);
+        good = good && same_value(typed, value) &&
+               (value.number != 0 || same_value(value, fringewell_read(document, length, value.place)));
+        for (int i = 0; i < LIMITS; i++) {
+            fringewell_value under = fringewell_path_under(document, length, path, size, limits[i]);
+            typed = fringewell_path_typed_under(document, length, path, size, under.tag, limits[i]);
+            good = good && same_value(typed, under) && (under.number != 0 || same_value(under, value));
+        }
+    }
+    return good;
+}
+
 /* So do step and reading under a limit: 22 for 5, and for an element with a longer key, pattern or options. Where the step is refused by
  * 6 to 10, a text that it met may be longer. */
 static bool stepped_under(const uint8_t *document, size_t length, size_t place, size_t limit, fringewell_stepped at,
@@ -69,6 +91,7 @@ static bool answers(const uint8_t *document, size_t length) {
     fringewell_check_strict(document, length);
     fringewell_is_empty(document, length);
     fringewell_lookup(document, length, key_end - 1, 1);
+    good = good && led(document, length);
     for (size_t place = 0; place <= length; place++) {
         fringewell_stepped stepped = fringewell_step(document, length, place, false);
         fringewell_value value = fringewell_read(document, length, place);

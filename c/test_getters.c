@@ -56,6 +56,36 @@ static uint32_t get(int row, const void *document, size_t length, const void *ke
     }
 }
 
+static uint32_t by_path(int row, const void *document, size_t length, const void *path, size_t path_length) {
+    memset(&out, GUARD, sizeof out);
+    switch (row) {
+    case 0:
+        return fringewell_path_double(document, length, path, path_length, &out.real);
+    case 1:
+        return fringewell_path_bool(document, length, path, path_length, &out.truth);
+    case 2:
+        return fringewell_path_int32(document, length, path, path_length, &out.int32);
+    case 3:
+        return fringewell_path_int64(document, length, path, path_length, &out.int64);
+    case 4:
+        return fringewell_path_datetime(document, length, path, path_length, &out.int64);
+    case 5:
+        return fringewell_path_string(document, length, path, path_length, &out.text);
+    case 6:
+        return fringewell_path_document(document, length, path, path_length, &out.bytes);
+    case 7:
+        return fringewell_path_array(document, length, path, path_length, &out.bytes);
+    case 8:
+        return fringewell_path_timestamp(document, length, path, path_length, &out.timestamp);
+    case 9:
+        return fringewell_path_binary(document, length, path, path_length, &out.binary);
+    case 10:
+        return fringewell_path_regex(document, length, path, path_length, &out.regex);
+    default:
+        return fringewell_path_object_id(document, length, path, path_length, out.id);
+    }
+}
+
 static uint32_t as(int row, fringewell_value value, const void *document) {
     memset(&out, GUARD, sizeof out);
     switch (row) {
@@ -86,10 +116,11 @@ static uint32_t as(int row, fringewell_value value, const void *document) {
     }
 }
 
-/* What was written last, of the element of `every_type` that has this getter's type. What is handed back as a pointer lies there. */
-static bool right(int row) {
+/* What was written last, of the element of `every_type` that has this getter's type; `at` is where its bytes begin. What is handed back as
+ * a pointer lies there. */
+static bool right(int row, const uint8_t *at) {
     static const uint8_t id[12] = {1, 2, 3, 4, 5, 6, 7, 8, 9, 10, 11, 12};
-    const char *text = (const char *)every_type;
+    const char *text = (const char *)at;
     switch (row) {
     case 0:
         return out.real == -2.5;
@@ -104,13 +135,13 @@ static bool right(int row) {
     case 5:
         return out.text.data == text + 22 && out.text.length == 3;
     case 6:
-        return out.bytes.data == every_type + 29 && out.bytes.length == 8;
+        return out.bytes.data == at + 29 && out.bytes.length == 8;
     case 7:
-        return out.bytes.data == every_type + 40 && out.bytes.length == 12;
+        return out.bytes.data == at + 40 && out.bytes.length == 12;
     case 8:
         return out.timestamp.increment == 0x01020304 && out.timestamp.seconds == 0xFEDCBA98;
     case 9:
-        return out.binary.data == every_type + 60 && out.binary.length == 2 && out.binary.subtype == 0x80;
+        return out.binary.data == at + 60 && out.binary.length == 2 && out.binary.subtype == 0x80;
     case 10:
         return out.regex.pattern.data == text + 101 && out.regex.pattern.length == 2 && out.regex.options.data == text + 104 &&
                out.regex.options.length == 1;
@@ -133,16 +164,37 @@ static void every_type_by(int row) {
         const char key[1] = {(char)('a' + i)};
         if (every_value[i].tag == tags[row]) {
             EXPECT_EQUAL(get(row, WHOLE(every_type), key, 1), FRINGEWELL_OK);
-            EXPECT(right(row));
+            EXPECT(right(row, every_type));
+            EXPECT_EQUAL(by_path(row, WHOLE(every_type), key, 1), FRINGEWELL_OK);
+            EXPECT(right(row, every_type));
             EXPECT_EQUAL(as(row, every_value[i], every_type), FRINGEWELL_OK);
-            EXPECT(right(row));
+            EXPECT(right(row, every_type));
             met++;
         } else {
             EXPECT_UNTOUCHED(get(row, WHOLE(every_type), key, 1), FRINGEWELL_OTHER_TYPE);
+            EXPECT_UNTOUCHED(by_path(row, WHOLE(every_type), key, 1), FRINGEWELL_OTHER_TYPE);
             EXPECT_UNTOUCHED(as(row, every_value[i], every_type), FRINGEWELL_OTHER_TYPE);
         }
     }
     EXPECT(met == 1);
+}
+
+/* Each getter by a path of two keys, where `every_type` is the document under `w`, which begins at 7. */
+static void inside_by(int row) {
+    static uint8_t outer[229];
+    EXPECT_EQUAL(nest(outer, 1, BYTES(0x03, 'w', 0), every_type + 4, sizeof every_type - 5), sizeof outer);
+    for (size_t i = 0; i < 21; i++) {
+        const char keys[3] = {'w', 0, (char)('a' + i)};
+        if (every_value[i].tag == tags[row]) {
+            EXPECT_EQUAL(by_path(row, WHOLE(outer), WHOLE(keys)), FRINGEWELL_OK);
+            EXPECT(right(row, outer + 7));
+        } else {
+            EXPECT_UNTOUCHED(by_path(row, WHOLE(outer), WHOLE(keys)), FRINGEWELL_OTHER_TYPE);
+        }
+    }
+    EXPECT_UNTOUCHED(by_path(row, WHOLE(outer), TEXT("w\0x")), FRINGEWELL_ABSENT);
+    EXPECT_UNTOUCHED(by_path(row, WHOLE(outer), TEXT("x\0w")), FRINGEWELL_ABSENT);
+    EXPECT_UNTOUCHED(by_path(row, WHOLE(outer), TEXT("w\0j\0x")), FRINGEWELL_OTHER_TYPE); /* j is a null */
 }
 
 /* {a: a text FF, b: a boolean of 2, c: subtype 2 with data under four bytes, and a tag that is none} */
@@ -163,6 +215,12 @@ static void refused(int row) {
     EXPECT_UNTOUCHED(get(row, WHOLE(damaged), TEXT("b")), FRINGEWELL_BAD_BOOLEAN);
     EXPECT_UNTOUCHED(get(row, WHOLE(damaged), TEXT("c")), FRINGEWELL_BAD_SHAPE);
     EXPECT_UNTOUCHED(get(row, WHOLE(damaged), TEXT("e")), FRINGEWELL_UNKNOWN_TAG);
+    static const uint8_t zeros[201];
+    EXPECT_UNTOUCHED(by_path(row, WHOLE(every_type), WHOLE(zeros)), FRINGEWELL_PATH_TOO_LONG);
+    EXPECT_UNTOUCHED(by_path(row, NOTHING, TEXT("a")), FRINGEWELL_TOO_SHORT);
+    EXPECT_UNTOUCHED(by_path(row, WHOLE(damaged), TEXT("b")), FRINGEWELL_BAD_BOOLEAN);
+    EXPECT_UNTOUCHED(by_path(row, WHOLE(damaged), TEXT("b\0x")), FRINGEWELL_BAD_BOOLEAN);
+    EXPECT_UNTOUCHED(by_path(row, WHOLE(damaged), TEXT("e\0x")), FRINGEWELL_UNKNOWN_TAG);
     static const uint32_t numbers[] = {FRINGEWELL_NOT_UTF8, FRINGEWELL_BAD_BOOLEAN, FRINGEWELL_BAD_SHAPE, FRINGEWELL_UNKNOWN_TAG};
     fringewell_element at = {.next = FRINGEWELL_START};
     for (size_t i = 0; i < sizeof numbers / sizeof *numbers; i++) {
@@ -189,14 +247,14 @@ static void corners(void) {
     EXPECT(out.int32 == 87);
 }
 
-/* 0 to 22 but 21 have a sentence each, in which the words stand that tell it (RULES.md, "Numbers returned"), and all other numbers have one
+/* 0 to 22 have a sentence each, in which the words stand that tell it (RULES.md, "Numbers returned"), and all other numbers have one
  * together. */
 static void sentences(void) {
     static const char *const words[23] = {"nothing is refused", "under 5 bytes", "length differs", "last byte", "a step begins",
                                           "no zero byte", "not UTF-8", "tag", "length field", "past the slice",
                                           "end in zero", "boolean", "inner shape", "deeper than 200", "no room",
                                           "to write", "absent", "another type", "out of turn", "key of an array",
-                                          "over 65,535 bytes", "this is no number of the library", "longer than the limit"};
+                                          "over 65,535 bytes", "more than 201 keys", "longer than the limit"};
     for (uint32_t a = 0; a <= 22; a++) {
         const char *sentence = fringewell_describe(a);
         EXPECT(sentence != NULL && strstr(sentence, words[a]) != NULL);
@@ -205,9 +263,9 @@ static void sentences(void) {
         }
     }
     for (uint32_t number = 23; number <= 1000; number++) {
-        EXPECT(strcmp(fringewell_describe(number), fringewell_describe(21)) == 0);
+        EXPECT(strcmp(fringewell_describe(number), "this is no number of the library") == 0);
     }
-    EXPECT(strcmp(fringewell_describe(UINT32_MAX), fringewell_describe(21)) == 0);
+    EXPECT(strcmp(fringewell_describe(UINT32_MAX), "this is no number of the library") == 0);
 }
 
 /* The 21 tags by their names, in the order of `every_type`; all others are unknown. */
@@ -237,6 +295,7 @@ static void version(void) {
 int main(void) {
     for (int row = 0; row < GETTERS; row++) {
         every_type_by(row);
+        inside_by(row);
         refused(row);
     }
     corners();

@@ -8,6 +8,9 @@
 static const uint8_t document[] = {22, 0, 0, 0, 0x10, 'n', 0, 5, 0, 0, 0, 0x02, 't', 0, 3, 0, 0, 0, 'h', 'i', 0, 0};
 static const size_t length = sizeof document;
 
+/* {a: [{n: 5}]} */
+static const uint8_t inside[] = {28, 0, 0, 0, 0x04, 'a', 0, 20, 0, 0, 0, 0x03, '0', 0, 12, 0, 0, 0, 0x10, 'n', 0, 5, 0, 0, 0, 0, 0, 0};
+
 static bool looks_up(void) {
     const char *letter = "n";
     const uint8_t byte[] = {'n'};
@@ -16,6 +19,21 @@ static bool looks_up(void) {
     fringewell_value there = fringewell_read(document, length, typed.place);
     fringewell_value under = fringewell_read_under(document, length, found.place, there.framed_size);
     return fringewell_typed(under, found.tag) == FRINGEWELL_OK && under.bits == 5;
+}
+
+/* A digit behind a zero byte is a key of its own. */
+static bool goes_along(void) {
+    const uint8_t bytes[] = {'a', 0, '0', 0, 'n'};
+    int32_t n = 0;
+    fringewell_bytes array = {NULL, 0};
+    fringewell_value found = fringewell_path(inside, sizeof inside, FRINGEWELL_PATH("a", "0", "n"));
+    fringewell_value typed = fringewell_path_typed(inside, sizeof inside, bytes, sizeof bytes, found.tag);
+    fringewell_value under = fringewell_path_under(inside, sizeof inside, FRINGEWELL_TEXT("a\0" "0\0" "n"), typed.framed_size);
+    fringewell_value both = fringewell_path_typed_under(inside, sizeof inside, bytes, sizeof bytes, under.tag, under.framed_size);
+    return both.number == FRINGEWELL_OK && both.bits == 5 && both.place == 18 &&
+           fringewell_path_int32(inside, sizeof inside, FRINGEWELL_PATH("a", "0", "n"), &n) == FRINGEWELL_OK && n == 5 &&
+           fringewell_path_array(inside, sizeof inside, FRINGEWELL_PATH("a"), &array) == FRINGEWELL_OK && array.length == 20 &&
+           fringewell_path(inside, sizeof inside, FRINGEWELL_PATH("1", "2", "3", "4", "5", "6", "7", "8")).number == FRINGEWELL_ABSENT;
 }
 
 static bool iterates(void) {
@@ -64,5 +82,5 @@ static bool versions(void) {
 
 int main(void) {
     bool doubles = fringewell_bits_double(fringewell_double_bits(1.5)) == 1.5;
-    return looks_up() && iterates() && gets_typed() && writes() && versions() && doubles ? 0 : 1;
+    return looks_up() && goes_along() && iterates() && gets_typed() && writes() && versions() && doubles ? 0 : 1;
 }

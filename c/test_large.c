@@ -34,6 +34,18 @@ static void one_binary(uint8_t *slice, size_t size) {
     slice[10] = 0;
 }
 
+/* {p: {b: 7}} behind a binary that takes the rest of the room: the element p has 15 bytes, in front of the last zero. */
+static void along(uint8_t *slice) {
+    static const uint8_t last[15] = {0x03, 'p', 0, 12, 0, 0, 0, 0x10, 'b', 0, 7, 0, 0, 0, 0};
+    one_binary(slice, ROOM);
+    put32(slice + 6, ROOM - 12 - sizeof last);
+    put(slice, ROOM - 16, last, sizeof last);
+    EXPECT_VALUE(fringewell_path(slice, ROOM, TEXT("p\0b")),
+                 VALUE(.tag = FRINGEWELL_TAG_INT32, .place = ROOM - 9, .framed_offset = ROOM - 6, .framed_size = 4, .bits = 7));
+    EXPECT_NO_VALUE(fringewell_path(slice, ROOM, TEXT("p\0c")), FRINGEWELL_ABSENT, ROOM - 2);
+    EXPECT_NO_VALUE(fringewell_path(slice, ROOM, TEXT("\0c")), FRINGEWELL_OTHER_TYPE, 4);
+}
+
 /* Joined with itself a document of 2^30 + 3 bytes would have 2^31 + 1, which `out` could hold. */
 static void joining(uint8_t *slice, uint8_t *out) {
     one_binary(slice, ROOM);
@@ -99,6 +111,7 @@ int main(void) {
     EXPECT(slice != NULL && out != NULL);
     if (slice != NULL && out != NULL) {
         admission(slice);
+        along(slice);
         joining(slice, out);
         writing(out);
         long_data(out, slice);

@@ -18,6 +18,8 @@ static void passes(const uint8_t *document, size_t length, size_t key_size, size
     EXPECT_VERDICT(fringewell_check_strict_under(document, length, limit), 0, 0, 1);
     EXPECT_VALUE(fringewell_lookup_under(document, length, key, key_size, limit), value);
     EXPECT_VALUE(fringewell_lookup_typed_under(document, length, key, key_size, tag, limit), value);
+    EXPECT_VALUE(fringewell_path_under(document, length, key, key_size, limit), value);
+    EXPECT_VALUE(fringewell_path_typed_under(document, length, key, key_size, tag, limit), value);
     EXPECT_STEPPED(fringewell_step_under(document, length, 4, false, limit),
                    STEPPED(.tag = tag, .place = 4, .next = length - 1, .key_offset = 5, .key_size = key_size, .framed_offset = offset,
                            .framed_size = size));

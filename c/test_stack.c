@@ -74,7 +74,20 @@ static void joining(const uint8_t *document, size_t length) {
     fringewell_join(document, length, document, length, out, sizeof out);
 }
 
-/* Some of the rest: no call but the check goes down by levels. */
+/* As many keys as a path may have, all empty or all `0`: so one of the two goes down all levels of documents or arrays. */
+static void along(const uint8_t *document, size_t length) {
+    static const uint8_t empty[200];
+    static uint8_t positions[401];
+    for (size_t i = 0; i < sizeof positions; i += 2) {
+        positions[i] = '0';
+    }
+    fringewell_path(document, length, empty, sizeof empty);
+    fringewell_path_typed_under(document, length, empty, sizeof empty, FRINGEWELL_TAG_DOCUMENT, LIMIT);
+    fringewell_path(document, length, positions, sizeof positions);
+    fringewell_path_typed_under(document, length, positions, sizeof positions, FRINGEWELL_TAG_ARRAY, LIMIT);
+}
+
+/* Some of the rest: no call but the check and the path goes down by levels. */
 static void others(const uint8_t *document, size_t length) {
     static uint8_t out[64];
     static fringewell_state state;
@@ -94,7 +107,7 @@ static const struct {
     void (*call)(const uint8_t *document, size_t length);
 } calls[] = {
     {"plain check", plain}, {"strict check", strict}, {"plain under a limit", limited}, {"strict under a limit", strict_limited},
-    {"join", joining},      {"others", others},
+    {"join", joining},      {"path", along},          {"others", others},
 };
 
 static size_t most;

@@ -13,8 +13,8 @@
  * Offsets are of the document that was given, and mean nothing in another one.
  * Aliasing: `out` and the state overlap nothing else that is lent to the call. Slices that are only read may overlap each other.
  * Threads: there is no global state. Calls are reentrant, and run at the same time on whatever no other call writes to.
- * Stack: no call that was measured has taken more than FRINGEWELL_STACK_BYTES. That is not proved: a test runs the deepest checks on a
- *   thread whose stack was filled with a pattern, and looks how far down the pattern is gone.
+ * Stack: no call that was measured has taken more than FRINGEWELL_STACK_BYTES. That is not proved: a test runs the deepest checks and
+ *   the longest path on a thread whose stack was filled with a pattern, and looks how far down the pattern is gone.
  */
 #ifndef FRINGEWELL_H
 #define FRINGEWELL_H
@@ -32,9 +32,9 @@
 extern "C" {
 #endif
 
-#define FRINGEWELL_VERSION "0.9.0"
+#define FRINGEWELL_VERSION "0.10.0"
 #define FRINGEWELL_VERSION_MAJOR 0
-#define FRINGEWELL_VERSION_MINOR 9
+#define FRINGEWELL_VERSION_MINOR 10
 #define FRINGEWELL_VERSION_PATCH 0
 #define FRINGEWELL_VERSION_NUMBER (FRINGEWELL_VERSION_MAJOR * 1000000 + FRINGEWELL_VERSION_MINOR * 1000 + FRINGEWELL_VERSION_PATCH)
 
@@ -46,7 +46,7 @@ uint32_t fringewell_version(void);
 /* The numbers (RULES.md, "Numbers returned", with what to do about each). `number` in an answer is 0, or the number of the refusal; 1 to
  * 13 mean damage, and under a limit 22. What a refusal does not give is 0. `place` is the offset, in the slice given, of the tag byte of
  * the element that the refusal is about; for 4 it is the offset where the step would begin, for 16 that of the terminator, for 1 to 3 of
- * the given slice 0. The terminator is a document's last byte. No call gives 20: it is for programs that read a frame. */
+ * the given slice 0, and for 21 0. The terminator is a document's last byte. No call gives 20: it is for programs that read a frame. */
 enum {
     FRINGEWELL_OK = 0,              /* nothing is refused */
     FRINGEWELL_TOO_SHORT = 1,       /* the document has under 5 bytes */
@@ -69,6 +69,7 @@ enum {
     FRINGEWELL_OUT_OF_TURN = 18,    /* the writer's call or state is out of turn */
     FRINGEWELL_BAD_ARRAY_KEY = 19,  /* a key of an array is not its position in decimal */
     FRINGEWELL_INPUT_TOO_LONG = 20, /* the input is over 65,535 bytes */
+    FRINGEWELL_PATH_TOO_LONG = 21,  /* the path has more than 201 keys */
     FRINGEWELL_TOO_LONG = 22        /* a key, pattern or options is longer than the limit, or has no zero byte within it */
 };
 
@@ -107,7 +108,7 @@ typedef struct {
     size_t count;
 } fringewell_verdict;
 
-/* A value: of a lookup, of a reading at a place, and of an element in an iteration. */
+/* A value: of a lookup, of a path, of a reading at a place, and of an element in an iteration. */
 typedef struct {
     uint32_t number;
     uint8_t tag;
@@ -157,6 +158,22 @@ typedef struct {
 /* A key or a text written out, as the two arguments of a call: FRINGEWELL_TEXT("battery"). */
 #define FRINGEWELL_TEXT(literal) ("" literal ""), (sizeof(literal) - 1)
 
+/* A path of one to eight keys written out, as the two arguments of a call: FRINGEWELL_PATH("power", "battery"). Any other path is bytes,
+ * with a zero byte between the keys. In a literal, `cells` and then `0` is "cells\0" "0": "\00" would be one byte, written in octal. */
+#define FRINGEWELL_PATH(...) FRINGEWELL_TEXT(FRINGEWELL_KEYS(__VA_ARGS__))
+#define FRINGEWELL_KEYS(...) \
+    FRINGEWELL_NINTH(__VA_ARGS__, FRINGEWELL_KEYS_8, FRINGEWELL_KEYS_7, FRINGEWELL_KEYS_6, FRINGEWELL_KEYS_5, FRINGEWELL_KEYS_4, \
+                     FRINGEWELL_KEYS_3, FRINGEWELL_KEYS_2, FRINGEWELL_KEYS_1, 0)(__VA_ARGS__)
+#define FRINGEWELL_NINTH(a, b, c, d, e, f, g, h, ninth, ...) ninth
+#define FRINGEWELL_KEYS_1(key) key
+#define FRINGEWELL_KEYS_2(key, ...) key "\0" FRINGEWELL_KEYS_1(__VA_ARGS__)
+#define FRINGEWELL_KEYS_3(key, ...) key "\0" FRINGEWELL_KEYS_2(__VA_ARGS__)
+#define FRINGEWELL_KEYS_4(key, ...) key "\0" FRINGEWELL_KEYS_3(__VA_ARGS__)
+#define FRINGEWELL_KEYS_5(key, ...) key "\0" FRINGEWELL_KEYS_4(__VA_ARGS__)
+#define FRINGEWELL_KEYS_6(key, ...) key "\0" FRINGEWELL_KEYS_5(__VA_ARGS__)
+#define FRINGEWELL_KEYS_7(key, ...) key "\0" FRINGEWELL_KEYS_6(__VA_ARGS__)
+#define FRINGEWELL_KEYS_8(key, ...) key "\0" FRINGEWELL_KEYS_7(__VA_ARGS__)
+
 /* A number in words; never NULL. */
 static inline const char *fringewell_describe(uint32_t number) {
     switch (number) {
@@ -202,6 +219,8 @@ static inline const char *fringewell_describe(uint32_t number) {
         return "a key of an array is not its position in decimal";
     case FRINGEWELL_INPUT_TOO_LONG:
         return "the input is over 65,535 bytes";
+    case FRINGEWELL_PATH_TOO_LONG:
+        return "the path has more than 201 keys";
     case FRINGEWELL_TOO_LONG:
         return "a key, pattern or options is longer than the limit, or has no zero byte within it";
     default:
@@ -261,19 +280,19 @@ static inline const char *fringewell_tag_name(uint8_t tag) {
 
 /* ---- Reading (RULES.md, "Admission and one step", "Values", "The whole check") ----
  *
- * Every call admits the document first: 1, 2, 3, in this order.
+ * Every call admits the document first: 1, 2, 3, in this order; only 21, which is about a path alone, comes before.
  *
  * Limits (RULES.md, request 2). A call whose name ends in `_under` answers as the call in front of it, but under a limit: with limit m a
  * key, a pattern or options may have at most m bytes, at every level, else 22, before 6. What is answered of such a text depends on the
  * first m + 1 bytes from where it begins alone, and 22 stands in the place of 5. These calls always have a limit set, SIZE_MAX too; the
- * others have none. Not limited are the key that is looked up, and texts with their length in front. */
+ * others have none. Not limited are the key that is looked up, the keys of a path, and texts with their length in front. */
 
 /* The whole check: every element of every level, its value read, none deeper than 200 (top values have depth 0; inside documents and
  * arrays it is one more, inside a scope two). Refused by 1 to 13, the first met in the document's order: at an element that steps from
  * offset 4 yield, in it or where it ends, or as these steps are refused; else `count` is the number of values. A document that passed is
- * then refused by none of 1 to 13 in a lookup, in a step from offset 4 or from where the last one ended, or in reading at a place that a
- * step gave. It has one meaning: no other bytes read as the same elements, and each of its bytes is of its length, of one element's tag,
- * key, zero or value, or its last zero; the same holds of every document inside. */
+ * then refused by none of 1 to 13 in a lookup, along a path, in a step from offset 4 or from where the last one ended, or in reading at a
+ * place that a step gave. It has one meaning: no other bytes read as the same elements, and each of its bytes is of its length, of one
+ * element's tag, key, zero or value, or its last zero; the same holds of every document inside. */
 fringewell_verdict fringewell_check(const void *document, size_t length);
 
 /* The whole check under a limit. Refused by 1 to 4, 6 to 13 and 22. A document that passed is then refused by none of 1 to 13 and 22 in
@@ -304,6 +323,27 @@ fringewell_value fringewell_lookup_typed(const void *document, size_t length, co
 /* The typed lookup under a limit. Refused by 16, by 1 to 4, 6 to 12 and 22 for damage before the element or in it, and then by 17. */
 fringewell_value fringewell_lookup_typed_under(const void *document, size_t length, const void *key, size_t key_length, uint8_t tag,
                                                size_t limit);
+
+/* The value that a path leads to (RULES.md, request 1): keys with a zero byte between them, as FRINGEWELL_PATH("power", "battery") writes
+ * them. The path is split at every zero byte, so that no key holds one: `a\0` is `a` and then the empty key, and the empty path is the one
+ * empty key. Each key is looked up where the one before led, in a document or in an array, whose keys are "0", "1" on; a code with scope is
+ * not entered. The last value may be of any type. Refused by 21 for more than 201 keys, before the document is looked at; then, at each
+ * level, as the lookup is, by 16 where there is no such element, at the terminator of the document or array searched, and by 1 to 12 for
+ * damage before it or in its value; and then by 17, at that element, where keys are left and its value is neither document nor array.
+ * Offsets are of the document given, at every level. The answer is that of one lookup after another, and what is found is what
+ * fringewell_read answers at its place. */
+fringewell_value fringewell_path(const void *document, size_t length, const void *path, size_t path_length);
+
+/* The path under a limit, the same at every level. Refused by 21; then, at each level, by 16, by 1 to 4, 6 to 12 and 22 for damage before
+ * the element or in it, and then by 17. What is found is what fringewell_read_under answers at its place under this limit. */
+fringewell_value fringewell_path_under(const void *document, size_t length, const void *path, size_t path_length, size_t limit);
+
+/* The path to a value that must have this tag: else 17, at the last element, once its value is read. */
+fringewell_value fringewell_path_typed(const void *document, size_t length, const void *path, size_t path_length, uint8_t tag);
+
+/* The typed path under a limit. Refused as the path under a limit is, and then by 17. */
+fringewell_value fringewell_path_typed_under(const void *document, size_t length, const void *path, size_t path_length, uint8_t tag,
+                                             size_t limit);
 
 /* Where an iteration starts, with `ended` false. */
 #define FRINGEWELL_START 4
@@ -356,9 +396,9 @@ static inline double fringewell_bits_double(uint64_t bits) {
 
 /* ---- Typed getters: inline C over the calls above ----
  *
- * Each fringewell_get_.. is the typed lookup, and each fringewell_as_.. takes a value that another call answered of this document. They
- * return the number: of the lookup or of the value, or 17 where the value is of another type; and write `out` only where that is 0. What
- * is handed back as a pointer lies in the document, and lives as long. */
+ * Each fringewell_get_.. is the typed lookup, each fringewell_path_.. the typed path, and each fringewell_as_.. takes a value that another
+ * call answered of this document. They return the number: of the lookup, of the path or of the value, or 17 where the value is of another
+ * type; and write `out` only where that is 0. What is handed back as a pointer lies in the document, and lives as long. */
 
 /* A text in a document: without a final zero, and zero bytes may be inside. */
 typedef struct {
@@ -546,6 +586,61 @@ static inline uint32_t fringewell_get_regex(const void *document, size_t length,
 
 static inline uint32_t fringewell_get_object_id(const void *document, size_t length, const void *key, size_t key_length, uint8_t out[12]) {
     return fringewell_as_object_id(fringewell_lookup_typed(document, length, key, key_length, FRINGEWELL_TAG_OBJECT_ID), document, out);
+}
+
+static inline uint32_t fringewell_path_double(const void *document, size_t length, const void *path, size_t path_length, double *out) {
+    return fringewell_as_double(fringewell_path_typed(document, length, path, path_length, FRINGEWELL_TAG_DOUBLE), out);
+}
+
+static inline uint32_t fringewell_path_bool(const void *document, size_t length, const void *path, size_t path_length, bool *out) {
+    return fringewell_as_bool(fringewell_path_typed(document, length, path, path_length, FRINGEWELL_TAG_BOOL), out);
+}
+
+static inline uint32_t fringewell_path_int32(const void *document, size_t length, const void *path, size_t path_length, int32_t *out) {
+    return fringewell_as_int32(fringewell_path_typed(document, length, path, path_length, FRINGEWELL_TAG_INT32), out);
+}
+
+static inline uint32_t fringewell_path_int64(const void *document, size_t length, const void *path, size_t path_length, int64_t *out) {
+    return fringewell_as_int64(fringewell_path_typed(document, length, path, path_length, FRINGEWELL_TAG_INT64), out);
+}
+
+static inline uint32_t fringewell_path_datetime(const void *document, size_t length, const void *path, size_t path_length, int64_t *out) {
+    return fringewell_as_datetime(fringewell_path_typed(document, length, path, path_length, FRINGEWELL_TAG_DATETIME), out);
+}
+
+static inline uint32_t fringewell_path_timestamp(const void *document, size_t length, const void *path, size_t path_length,
+                                                 fringewell_timestamp *out) {
+    return fringewell_as_timestamp(fringewell_path_typed(document, length, path, path_length, FRINGEWELL_TAG_TIMESTAMP), out);
+}
+
+static inline uint32_t fringewell_path_string(const void *document, size_t length, const void *path, size_t path_length,
+                                              fringewell_text *out) {
+    return fringewell_as_string(fringewell_path_typed(document, length, path, path_length, FRINGEWELL_TAG_STRING), document, out);
+}
+
+static inline uint32_t fringewell_path_document(const void *document, size_t length, const void *path, size_t path_length,
+                                                fringewell_bytes *out) {
+    return fringewell_as_document(fringewell_path_typed(document, length, path, path_length, FRINGEWELL_TAG_DOCUMENT), document, out);
+}
+
+static inline uint32_t fringewell_path_array(const void *document, size_t length, const void *path, size_t path_length,
+                                             fringewell_bytes *out) {
+    return fringewell_as_array(fringewell_path_typed(document, length, path, path_length, FRINGEWELL_TAG_ARRAY), document, out);
+}
+
+static inline uint32_t fringewell_path_binary(const void *document, size_t length, const void *path, size_t path_length,
+                                              fringewell_binary *out) {
+    return fringewell_as_binary(fringewell_path_typed(document, length, path, path_length, FRINGEWELL_TAG_BINARY), document, out);
+}
+
+static inline uint32_t fringewell_path_regex(const void *document, size_t length, const void *path, size_t path_length,
+                                             fringewell_regex *out) {
+    return fringewell_as_regex(fringewell_path_typed(document, length, path, path_length, FRINGEWELL_TAG_REGEX), document, out);
+}
+
+static inline uint32_t fringewell_path_object_id(const void *document, size_t length, const void *path, size_t path_length,
+                                                 uint8_t out[12]) {
+    return fringewell_as_object_id(fringewell_path_typed(document, length, path, path_length, FRINGEWELL_TAG_OBJECT_ID), document, out);
 }
 
 /* ---- Joining (RULES.md, "Writer and joining") ---- */

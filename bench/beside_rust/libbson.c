@@ -109,3 +109,13 @@ uint64_t beside_lookup(const uint8_t *bytes, size_t length, const char *key, int
         return 0;
     return (uint64_t)bson_iter_type(&iter) + held(&iter);
 }
+
+// The same of what a path leads to, its keys with dots between them.
+uint64_t beside_path(const uint8_t *bytes, size_t length, const char *dotted)
+{
+    bson_t document;
+    bson_iter_t iter, found;
+    if (!admitted(&document, bytes, length, &iter) || !bson_iter_find_descendant(&iter, dotted, &found))
+        return 0;
+    return (uint64_t)bson_iter_type(&found) + held(&found);
+}

@@ -12,14 +12,9 @@ int main(void) {
         printf("refused at %zu: %s\n", verdict.place, fringewell_describe(verdict.number));
         return 1;
     }
-    fringewell_bytes power;
     int32_t battery;
-    uint32_t number = fringewell_get_document(frame, sizeof frame,
-                                              FRINGEWELL_TEXT("power"), &power);
-    if (number == FRINGEWELL_OK) {
-        number = fringewell_get_int32(power.data, power.length,
-                                      FRINGEWELL_TEXT("battery"), &battery);
-    }
+    uint32_t number = fringewell_path_int32(frame, sizeof frame,
+                                            FRINGEWELL_PATH("power", "battery"), &battery);
     if (number != FRINGEWELL_OK) {
         printf("no battery: %s\n", fringewell_describe(number));
         return 1;

@@ -5,8 +5,8 @@ and every byte that it was lent for writing must be what these say (tools/rules)
 Asked whole: the documents of the list, and those that are listed under a limit under each of theirs; the sessions of the writer, call by
 call; all pairs of RULES.md's own bytes to join; slices of each size up to 71 bytes, the check of them under limits too; texts of two
 characters; texts of zeros but for one byte; calls of the writer at the greatest room; the version, which the header says. Sampled: every
-third document under one of its limits, in turn; by seeds 3,000 damaged copies of the documents, and of the pairs of documents 1,000 of each
-kind, good or damaged before good or damaged.
+third document under one of its limits, in turn; paths to some of what lies in a document, and bent ones; by seeds 3,000 damaged copies of
+the documents, and of the pairs of documents 1,000 of each kind, good or damaged before good or damaged.
 
 Of each document and each damaged copy, without a limit and under one, the steps from offset 4 are followed by the library's own answers,
 apart from the rules: the elements must lie one behind the other, and their sizes add up, as the header says of a step; and the next element
@@ -34,8 +34,8 @@ sys.path.insert(0, str(ROOT / "tools"))
 from make.cases import NUMBERS, RETURNED, documents, under_limit
 from rules import boundary, joining, rules, writing
 from rules.boundary import Element, Joined, State, Stepped, Value, Verdict, Version, Written, packed, unpacked, verdict
-from rules.documents import ARRAYS, FIELDS, ID, ROWS, Dice, around, array_limits, bytes_to_try, doc, element, gets, keyed, le, limited
-from rules.documents import resized, row_texts, short_beacon, text
+from rules.documents import ARRAYS, FIELDS, ID, PATH_LIMITS, PATHS, ROWS, TOO_MANY, Dice, along, around, array_limits, bytes_to_try, doc
+from rules.documents import element, gets, keyed, le, limited, resized, row_texts, short_beacon, text
 from rules.rules import Refused
 from rules.writing import hexed, replayed, session
 
@@ -51,6 +51,8 @@ FUNCTIONS = {
     "is_empty": (Verdict, SLICE),
     "lookup": (Value, SLICE, SLICE),
     "lookup_typed": (Value, SLICE, SLICE, BYTE),
+    "path": (Value, SLICE, SLICE),
+    "path_typed": (Value, SLICE, SLICE, BYTE),
     "next": (Element, SLICE, WHOLE, HALF),
     "step": (Stepped, SLICE, WHOLE, HALF),
     "read": (Value, SLICE, WHOLE),
@@ -58,6 +60,8 @@ FUNCTIONS = {
     "check_strict_under": (Verdict, SLICE, WHOLE),
     "lookup_under": (Value, SLICE, SLICE, WHOLE),
     "lookup_typed_under": (Value, SLICE, SLICE, BYTE, WHOLE),
+    "path_under": (Value, SLICE, SLICE, WHOLE),
+    "path_typed_under": (Value, SLICE, SLICE, BYTE, WHOLE),
     "next_under": (Element, SLICE, WHOLE, HALF, WHOLE),
     "step_under": (Stepped, SLICE, WHOLE, HALF, WHOLE),
     "read_under": (Value, SLICE, WHOLE, WHOLE),
@@ -233,12 +237,48 @@ def at_places(s, elements, limit):
 def lookups(s, elements, asks, limit):
     """Keys that are there, absent, empty, with a zero, and not UTF-8; each with the element's tag, others, and tags outside the table."""
     tags = {e.key: e.tag for e in reversed(elements)}
-    keys = [*tags, *(key + b"\0" for key in [*tags][:1]), b"", b"absent", b"\0", b"\xff", *(key for _, key, *_ in asks)]
+    asked = [key for word, key, *_ in asks if word in ("get", "typed")]
+    keys = [*tags, *(key + b"\0" for key in [*tags][:1]), b"", b"absent", b"\0", b"\xff", *asked]
     pairs = [(key, tag) for key in keys for tag in (tags.get(key, 0x10), 0x02 if tags.get(key) == 0x10 else 0x10, 0x00, 0x14)]
     for key in dict.fromkeys(keys):
         yield question("lookup", boundary.found, rules.get, s, key, asked=(s, key), limit=limit)
     for key, tag in dict.fromkeys([*pairs, *(ask[1:] for ask in asks if ask[0] == "typed")]):
         yield question("lookup_typed", boundary.found, rules.get_with, s, key, tag, asked=(s, key, tag), limit=limit)
+
+
+def inside(s, e):
+    """The bytes that a value opens, a scope's among them; none where it is refused or opens nothing."""
+    with suppress(Refused):
+        word, *numbers = rules.value_of(s, e)
+        if word in rules.OPENS:
+            offset, size = numbers[-2:]
+            return s[offset : offset + size]
+    return b""
+
+
+def nested_keys(s, before=()):
+    """The keys to the first and to the last element of each level, with their tags, down through the last that opens something."""
+    elements = yielded(s)
+    for e in elements[:1] + elements[-1:]:
+        yield (*before, e.key), e.tag
+    for e in reversed(elements):
+        if inner := inside(s, e):
+            yield from nested_keys(inner, (*before, e.key))
+            return
+
+
+def paths(s, asks, limit):
+    """Paths to elements at the top and far inside; with another key, with one more, with empty ones; and one of too many keys."""
+    drawn = [*nested_keys(s)]
+    some = dict.fromkeys(drawn[:2] + drawn[-3:])
+    keys = drawn[-1][0] if drawn else ("a",)
+    bent = [(*keys[:-1], "absent"), (*keys, "absent"), (*keys, ""), ("", *keys), (*keys[:1], "", *keys[1:]), ("", "")]
+    own = [along(*way) for way, _ in some]
+    for path in dict.fromkeys([*own, *(along(*way) for way in bent), TOO_MANY, *(ask[1] for ask in asks if ask[0] == "path")]):
+        yield question("path", boundary.found, rules.path, s, path, asked=(s, path), limit=limit)
+    pairs = [(path, tag) for path, (_, tag) in zip(own, some)] + [(path, 0x10) for path in [*own[-1:], TOO_MANY]]
+    for path, tag in dict.fromkeys([*pairs, *(ask[1:] for ask in asks if ask[0] == "path-typed")]):
+        yield question("path_typed", boundary.found, rules.path_with, s, path, tag, asked=(s, path, tag), limit=limit)
 
 
 def reading(s, asks=(), limit=None):
@@ -248,6 +288,7 @@ def reading(s, asks=(), limit=None):
     yield question("check_strict", verdict, rules.check, s, True, asked=(s,), limit=limit)
     yield from at_places(s, elements, limit)
     yield from lookups(s, elements, asks, limit)
+    yield from paths(s, asks, limit)
 
 
 def about(s, asks=()):
@@ -267,9 +308,7 @@ def sizes_met(s):
             word, *numbers = rules.value_of(s, e)
             if word == "regex":
                 yield from numbers[1::2]
-            if word in rules.OPENS:
-                offset, size = numbers[-2:]
-                yield from sizes_met(s[offset : offset + size])
+        yield from sizes_met(inside(s, e))
 
 
 def limits_of(s):
@@ -680,6 +719,8 @@ REFUSALS = {
     "is_empty": NUMBERS["empty"],
     "lookup": NUMBERS["get"],
     "lookup_typed": NUMBERS["typed"],
+    "path": NUMBERS["path"],
+    "path_typed": NUMBERS["path-typed"],
     "next": NUMBERS["admission"] | NUMBERS["at"] | NUMBERS["value"],
     "step": NUMBERS["admission"] | NUMBERS["at"],
     "read": NUMBERS["admission"] | NUMBERS["at"] | NUMBERS["value"] | {16},
@@ -767,6 +808,72 @@ def key_limited(s, key, limit=None, right=rules.get):
 
 def below_unlimited(*level, right=rules.inside):
     return right(*level[:-1], None)
+
+
+def other_path(changed, right=rules.path):
+    """The path with other keys."""
+    return patch.object(rules, "path", lambda s, keys, limit=None: right(s, changed(keys), limit))
+
+
+def other_way(wrong):
+    """Another rule for what is entered."""
+    return patch.object(rules, "entered", wrong)
+
+
+def entered_by(e, value, *tags):
+    rules.unless(e.tag in tags, 17, e.place)
+    return value[-2:]
+
+
+def admitted_first(s, keys, limit=None, right=rules.path):
+    rules.admit(s)
+    return right(s, keys, limit)
+
+
+def type_first(s, keys, limit=None, right=rules.path):
+    """17 in the place of the refusal of a value on the way; 11 and 12 are of no step."""
+    way, zero, _ = keys.rpartition(b"\0")
+    refused = boundary.found(right, s, way, limit)
+    rules.unless(not zero or refused.number not in (11, 12), 17, refused.place)
+    return right(s, keys, limit)
+
+
+def read_after_type(s, keys, tag, limit=None, right=rules.path_with):
+    """17 in the place of the refusal of a boolean, which is 11."""
+    refused = boundary.found(rules.path, s, keys, limit)
+    rules.unless(refused.number != 11 or tag == 0x08, 17, refused.place)
+    return right(s, keys, tag, limit)
+
+
+def last_at_the_top(s, keys, limit=None, right=rules.path):
+    way, zero, last = keys.rpartition(b"\0")
+    if not zero:
+        return right(s, keys, limit)
+    rules.entered(*right(s, way, limit))
+    return rules.get(s, last, limit)
+
+
+def bytes_counted(s, keys, limit=None, right=rules.path):
+    rules.unless(len(keys) <= 201, 21)
+    return right(s, keys, limit)
+
+
+def keys_limited(s, keys, limit=None, right=rules.path):
+    rules.unless(limit is None or all(len(key) <= limit for key in keys.split(b"\0")), 22)
+    return right(s, keys, limit)
+
+
+def in_the_part(rule, s, offset, size, *args):
+    """What is answered about a part, with places in the part."""
+    return rule(s[offset : offset + size], *args)
+
+
+def found_in_the_part(s, offset, size, key, limit):
+    return rules.inside(rules.get, s, offset, size, key, limit)
+
+
+def path_below_unlimited(s, offset, size, key, limit, right=rules.get_inside):
+    return right(s, offset, size, key, limit if offset == 0 else None)
 
 
 def other_key(wrong, right=rules.is_array_key):
@@ -864,6 +971,29 @@ WRONG_KEYS = {
     "the key comes behind the depth": patch.object(rules, "visit", key_after_depth),
     "the key comes before the limit": patch.object(rules, "check", key_before_limit),
 }
+WRONG_PATHS = {
+    "a path has 200 keys at most": patch.object(rules, "MOST_KEYS", 200),
+    "a path has 202 keys at most": patch.object(rules, "MOST_KEYS", 202),
+    "a path has 201 bytes at most": patch.object(rules, "path", bytes_counted),
+    "21 comes behind admission": patch.object(rules, "path", admitted_first),
+    "17 comes before the refusal of a value on the way": patch.object(rules, "path", type_first),
+    "17 comes before the refusal of the last value": patch.object(rules, "path_with", read_after_type),
+    "the last key is looked up at the top": patch.object(rules, "path", last_at_the_top),
+    "the last key is dropped": other_path(lambda keys: keys.rpartition(b"\0")[0]),
+    "the first key is dropped": other_path(lambda keys: keys.partition(b"\0")[2]),
+    "a zero at the end is no key": other_path(lambda keys: keys.removesuffix(b"\0")),
+    "a zero in front is no key": other_path(lambda keys: keys.removeprefix(b"\0")),
+    "zeros side by side are one": other_path(lambda keys: re.sub(b"\0+", b"\0", keys)),
+    "a scope is entered": other_way(lambda e, value: entered_by(e, value, 0x03, 0x04, 0x0F)),
+    "an array is not entered": other_way(lambda e, value: entered_by(e, value, 0x03)),
+    "17 on the way has the place of the value": other_way(lambda e, value: entered_by(e._replace(place=e.offset), value, 0x03, 0x04)),
+    "the place of a refusal is that in the part": patch.object(rules, "inside", in_the_part),
+    "what is found lies in the part": patch.object(rules, "get_inside", found_in_the_part),
+    "the typed path forgets the tag": patch.object(rules, "path_with", lambda s, keys, tag, limit=None: rules.path(s, keys, limit)),
+    "below the top a path has no limit": patch.object(rules, "get_inside", path_below_unlimited),
+    "the keys of a path are limited": patch.object(rules, "path", keys_limited),
+    "the last match is found on the way": patch.object(rules, "get", last_match),
+}
 WRONG_JOINING = {
     "the second is first": patch.object(joining, "join", second_first),
     "the strict check is made": patch.object(joining, "check", lambda s: rules.check(s, True)),
@@ -889,6 +1019,14 @@ def strict_checks():
         yield question("check_strict", verdict, rules.check, d, True, asked=(d,), limit=limit)
 
 
+def path_questions():
+    """The paths that are asked of the documents made for them, without a limit and under theirs."""
+    for d, asks in chain.from_iterable(group() for group in PATHS):
+        yield from paths(d, asks, None)
+    for limit, d, asks in chain.from_iterable(group() for group in PATH_LIMITS):
+        yield from paths(d, asks, limit)
+
+
 def all_telling():
     return chain.from_iterable(joined(*pair) for pair in telling_pairs())
 
@@ -896,7 +1034,7 @@ def all_telling():
 def try_rules(library):
     """A wrong rule shows as a difference."""
     tried = [(some_reading, WRONG_READING | WRONG_ANSWERS), (under_limits, WRONG_LIMITS), (strict_checks, WRONG_KEYS)]
-    tried += [(all_telling, WRONG_JOINING), (all_sessions, WRONG_WRITING)]
+    tried += [(path_questions, WRONG_PATHS), (all_telling, WRONG_JOINING), (all_sessions, WRONG_WRITING)]
     for questions, rules_of in tried:
         for what, wrong in rules_of.items():
             with wrong:

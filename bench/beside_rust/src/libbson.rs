@@ -1,11 +1,11 @@
 //! libbson: in the rows that read by libbson.c; it writes by its own functions, for which a bson_t is a place of 128 bytes.
 
-use std::ffi::c_int;
+use std::ffi::{c_char, c_int};
 use std::mem::MaybeUninit;
 
 use bson::RawBsonRef as Value;
 
-use crate::side::{Given, Piece, Side};
+use crate::side::{Given, Path, Piece, Side};
 
 /// A bson_t; libbson.c holds its size and alignment to this.
 #[repr(C, align(128))]
@@ -15,6 +15,7 @@ extern "C" {
     fn beside_iterate(document: *const u8, length: usize) -> u64;
     fn beside_check(document: *const u8, length: usize) -> u64;
     fn beside_lookup(document: *const u8, length: usize, key: *const u8, n: c_int) -> u64;
+    fn beside_path(document: *const u8, length: usize, dotted: *const c_char) -> u64;
     fn bson_sized_new(room: usize) -> *mut Bson;
     fn bson_reinit(document: *mut Bson);
     fn bson_get_data(document: *const Bson) -> *const u8;
@@ -80,6 +81,10 @@ impl Side for Libbson {
                 key.len() as c_int,
             )
         }
+    }
+
+    fn path(&mut self, document: &[u8], path: &Path) -> u64 {
+        unsafe { beside_path(document.as_ptr(), document.len(), path.dotted.as_ptr()) }
     }
 
     fn build(&mut self, pieces: &[Piece], _: Given) -> u64 {

@@ -3,7 +3,7 @@
 use boundary::{State, Verdict, Written};
 use bson::RawBsonRef as Value;
 
-use crate::side::{Given, Piece, Side};
+use crate::side::{Given, Path, Piece, Side};
 
 /// Where an iteration starts.
 const START: usize = 4;
@@ -67,6 +67,22 @@ impl Side for Ours {
         let (key, n) = (key.as_ptr(), key.len());
         let found = unsafe { boundary::fringewell_lookup(bytes, length, key, n) };
         told(&found, 0)
+    }
+
+    fn path(&mut self, document: &[u8], path: &Path) -> u64 {
+        let (bytes, length) = (document.as_ptr(), document.len());
+        let (keys, n) = (path.zeroed.as_ptr(), path.zeroed.len());
+        told(&unsafe { boundary::fringewell_path(bytes, length, keys, n) }, 0)
+    }
+
+    fn path_by_lookups(&mut self, document: &[u8], path: &Path) -> u64 {
+        let [first, second] = path.keys;
+        let (bytes, length) = (document.as_ptr(), document.len());
+        let outer =
+            unsafe { boundary::fringewell_lookup(bytes, length, first.as_ptr(), first.len()) };
+        assert!(outer.number == 0 && outer.tag == 0x03);
+        let inner = &document[outer.offset..outer.offset + outer.size];
+        self.lookup(inner, second)
     }
 
     fn build(&mut self, pieces: &[Piece], _: Given) -> u64 {

@@ -3,7 +3,7 @@
 use std::hint::black_box;
 use std::time::Instant;
 
-use crate::side::{Given, Piece, Side};
+use crate::side::{Given, Path, Piece, Side};
 
 /// A batch takes about this long: the clock costs little of it, and a pause of the machine spoils few batches.
 const BATCH_NS: f64 = 100_000.0;
@@ -18,6 +18,8 @@ pub enum Task<'a> {
     Check(&'a [u8]),
     CheckStrict(&'a [u8]),
     Lookup(&'a [u8], &'a str),
+    Path(&'a [u8], Path<'a>),
+    PathByLookups(&'a [u8], Path<'a>),
     Build(Vec<Piece<'a>>, Given),
 }
 
@@ -43,6 +45,12 @@ impl<S: Side> Runner for S {
             Task::Lookup(document, key) => {
                 repeated(turns, || self.lookup(black_box(document), black_box(key)))
             }
+            Task::Path(document, ref path) => {
+                repeated(turns, || self.path(black_box(document), black_box(path)))
+            }
+            Task::PathByLookups(document, ref path) => repeated(turns, || {
+                self.path_by_lookups(black_box(document), black_box(path))
+            }),
             Task::Build(ref pieces, given) => {
                 repeated(turns, || self.build(black_box(pieces), given))
             }

@@ -7,7 +7,7 @@ use std::str::from_utf8;
 use bson::RawDocument;
 
 use crate::rounds::{Row, Task};
-use crate::side::{pieces, Given};
+use crate::side::{pieces, Given, Path};
 
 /// What bench/rows.py wrote, by the names of the files.
 pub struct Folder {
@@ -70,6 +70,8 @@ fn task_of<'a>(task: &str, document: &'a [u8], key: &'a str) -> Task<'a> {
         "check" => Task::Check(document),
         "check_strict" => Task::CheckStrict(document),
         "lookup" => Task::Lookup(document, key),
+        "path" => Task::Path(document, Path::new(key)),
+        "path_by_lookups" => Task::PathByLookups(document, Path::new(key)),
         "build" => built(Given::Bytes),
         "build_tested" => built(Given::Tested),
         _ => panic!("no such task: {task}"),

@@ -5,7 +5,7 @@ use std::hint::black_box;
 use bson::{RawBsonRef as Value, RawDocument};
 
 use crate::rust_writer::write;
-use crate::side::{Given, Piece, Side};
+use crate::side::{Given, Path, Piece, Side};
 
 const MAX_DEPTH: u32 = 200;
 
@@ -37,6 +37,17 @@ impl Side for Rust {
         let admitted = RawDocument::from_bytes(document).expect("a whole document");
         let value = admitted
             .get(key)
+            .expect("a whole document")
+            .expect("a key of it");
+        held(value).wrapping_add(value.element_type() as u64)
+    }
+
+    fn path(&mut self, document: &[u8], path: &Path) -> u64 {
+        let [first, second] = path.keys;
+        let admitted = RawDocument::from_bytes(document).expect("a whole document");
+        let inner = admitted.get_document(first).expect("a document in it");
+        let value = inner
+            .get(second)
             .expect("a whole document")
             .expect("a key of it");
         held(value).wrapping_add(value.element_type() as u64)

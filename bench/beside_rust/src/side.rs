@@ -1,5 +1,7 @@
 //! What each of the three does in a row, and what the rows hand to it.
 
+use std::ffi::CString;
+
 use bson::raw::CStr;
 use bson::{RawBsonRef as Value, RawDocument};
 
@@ -24,11 +26,38 @@ pub trait Side {
     /// The first element of the key: its tag and what its value holds.
     fn lookup(&mut self, document: &[u8], key: &str) -> u64;
 
+    /// The value that two keys lead to, the second in the document under the first: its tag and what it holds.
+    fn path(&mut self, document: &[u8], path: &Path) -> u64;
+
+    /// The same by two lookups; only this library has a call for each, the others do as for a path.
+    fn path_by_lookups(&mut self, document: &[u8], path: &Path) -> u64 {
+        self.path(document, path)
+    }
+
     /// The document of these pieces, into the side's own buffer: its size.
     fn build(&mut self, pieces: &[Piece], given: Given) -> u64;
 
     /// What the last build left in the buffer.
     fn built(&self) -> &[u8];
+}
+
+/// Two keys, and the path of them as this library and as libbson take it, made before it is timed.
+pub struct Path<'a> {
+    pub keys: [&'a str; 2],
+    pub zeroed: Vec<u8>,
+    #[cfg_attr(not(feature = "libbson"), allow(dead_code))]
+    pub dotted: CString,
+}
+
+impl<'a> Path<'a> {
+    pub fn new(dotted: &'a str) -> Self {
+        let (first, second) = dotted.split_once('.').expect("a path of two keys");
+        Self {
+            keys: [first, second],
+            zeroed: [first, second].join("\0").into_bytes(),
+            dotted: CString::new(dotted).expect("keys without a zero byte"),
+        }
+    }
 }
 
 /// How keys and texts come to the Rust, which tests them when they become its types; this library tests them always, libbson never.

@@ -1,5 +1,5 @@
 -- The numbers that C is handed for a value tell it: from its element's tag, its number and its parts it is had again, whether by a lookup,
--- a reading at a place, or a step that reads what it yields (RULES.md, "Values" and module 8).
+-- a path, a reading at a place, or a step that reads what it yields (RULES.md, "Values" and module 8).
 use Prim.Native.Nat.{ℕ, _+_, _*_, _/_, _%_}
 use mathlib.Core.Path.{_≡_, refl, sym, ap, subst, _∙_}
 use mathlib.Core.List.{List}
@@ -14,18 +14,21 @@ use Rattle.bson.specs.Cstring.{Limit}
 use Rattle.bson.specs.Framing.{inFront, patternOptions}
 use Rattle.bson.specs.Grammar.{unsigned, Ranged}
 use Rattle.bson.specs.Lookup.{Found, getUnder, getWithUnder, getAtUnder}
+use Rattle.bson.specs.Path.{getPathUnder, getPathWithUnder}
 use Rattle.bson.specs.Step.{Cursor, cursor, Element, past, Step, yield, end, stepUnder, after}
 use Rattle.bson.specs.Tags
 use Rattle.bson.specs.Value
+use Rattle.laws.proofs.AlongLaws.{path-finds, path-with-finds}
 use Rattle.laws.proofs.AnswerLaws.{never, gives-injective, unless-gives, then-gives, at-gives}
 use Rattle.laws.proofs.Common.{split}
 use Rattle.laws.proofs.FramingLaws.{in-front-is}
 use Rattle.laws.proofs.GrammarLaws.{signed-unsigned}
 use Rattle.laws.proofs.GrammarBack.{bytes-are, le32-below, i32-ranged, i64-ranged}
-use Rattle.laws.proofs.LookupLaws.{FoundAt, get-finds, get-with-says, get-at-value, get-at-finds}
+use Rattle.laws.proofs.LookupLaws.{FoundAt, get-finds, get-with-finds, get-at-value, get-at-finds}
 use Rattle.laws.proofs.OpenLaws.{scope-says}
 use Rattle.laws.proofs.ReadLaws.{value-refused}
-use Rattle.laws.proofs.ReadRefusals.{NoZero, no-zero, no-zero-under, reads, typedReads, get-in, get-with-in, get-at-in, value-in}
+use Rattle.laws.proofs.ReadRefusals.{NoZero, no-zero, no-zero-under, reads, typedReads, paths, get-in, get-with-in, get-at-in, path-in}
+use Rattle.laws.proofs.ReadRefusals.{path-with-in, value-in}
 use Rattle.laws.proofs.StepLaws.{step-yields, yields-step}
 use Rattle.laws.proofs.TagLaws.{tagFor, type-tag}
 use Rattle.c_answers.specs.Numbers.{bitsOf, found, yielded, stepRead}
@@ -168,7 +171,7 @@ found-back : (a : Answer Found) → NoZero a → ((f : Found) → a ≡ gives f 
 found-back (gives f) h k = ap (λ (v : Value). gives (f .element .place, (f .element .tag, (f .element .value, v)))) (k f refl)
 found-back (refuses number place) h k = answer-refused number place _ h
 
--- the answer of a lookup, or of a reading at a place: under some limit
+-- the answer of a lookup, of a path, or of a reading at a place: under some limit
 pub record Looks (s : List ℕ) (a : Answer Found) : Type 0 where
   pub numbered : NoZero a
   pub limit : Limit
@@ -225,7 +228,23 @@ module _ (limit : Limit) (s : List ℕ) where
       record {
         numbered = no-zero-under typedReads limit refl (λ m. refl) (get-with-in limit s key tag);
         limit = limit;
-        finds = λ f x. get-finds limit s key f (get-with-says limit s key tag f x .0);
+        finds = get-with-finds limit s key tag;
+      }
+
+  pub path-looks : (path : List ℕ) → Looks s (getPathUnder limit s path)
+  path-looks path =
+      record {
+        numbered = no-zero-under paths limit refl (λ m. refl) (path-in limit s path);
+        limit = limit;
+        finds = path-finds limit s path;
+      }
+
+  pub path-with-looks : (path : List ℕ) (tag : ℕ) → Looks s (getPathWithUnder limit s path tag)
+  path-with-looks path tag =
+      record {
+        numbered = no-zero-under paths limit refl (λ m. refl) (path-with-in limit s path tag);
+        limit = limit;
+        finds = path-with-finds limit s path tag;
       }
 
   pub get-at-looks : (place : ℕ) → Looks s (getAtUnder limit s place)

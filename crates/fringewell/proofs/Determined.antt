@@ -25,6 +25,14 @@ use Rattle.fringewell.proofs.fringewell_lookup_typed.Reads as lookup-ty
 use Rattle.fringewell.proofs.fringewell_lookup_typed.Kinds as lookup-typed-kinds
 use Rattle.fringewell.proofs.fringewell_lookup_typed_under.Reads as lookup-typed-under-reads
 use Rattle.fringewell.proofs.fringewell_lookup_typed_under.Kinds as lookup-typed-under-kinds
+use Rattle.fringewell.proofs.fringewell_path.Reads as path-reads
+use Rattle.fringewell.proofs.fringewell_path.Kinds as path-kinds
+use Rattle.fringewell.proofs.fringewell_path_under.Reads as path-under-reads
+use Rattle.fringewell.proofs.fringewell_path_under.Kinds as path-under-kinds
+use Rattle.fringewell.proofs.fringewell_path_typed.Reads as path-typed-reads
+use Rattle.fringewell.proofs.fringewell_path_typed.Kinds as path-typed-kinds
+use Rattle.fringewell.proofs.fringewell_path_typed_under.Reads as path-typed-under-reads
+use Rattle.fringewell.proofs.fringewell_path_typed_under.Kinds as path-typed-under-kinds
 use Rattle.fringewell.proofs.fringewell_step.Reads as step-reads
 use Rattle.fringewell.proofs.fringewell_step.Kinds as step-kinds
 use Rattle.fringewell.proofs.fringewell_step_under.Reads as step-under-reads
@@ -124,6 +132,21 @@ fringewell-lookup-typed-determined κs a r₁ r₂ s₁ s₂ p q = p ∙ sym q
 pub fringewell-lookup-typed-under-determined : (κs : Lfts 2) (a : Dens κs lookup-typed-under-kinds.ps)
     → Determined (lookup-typed-under-reads.Post κs a)
 fringewell-lookup-typed-under-determined κs a r₁ r₂ s₁ s₂ p q = p ∙ sym q
+
+-- ---- lookup by a path
+
+pub fringewell-path-determined : (κs : Lfts 2) (a : Dens κs path-kinds.ps) → Determined (path-reads.Post κs a)
+fringewell-path-determined κs a r₁ r₂ s₁ s₂ p q = p ∙ sym q
+
+pub fringewell-path-under-determined : (κs : Lfts 2) (a : Dens κs path-under-kinds.ps) → Determined (path-under-reads.Post κs a)
+fringewell-path-under-determined κs a r₁ r₂ s₁ s₂ p q = p ∙ sym q
+
+pub fringewell-path-typed-determined : (κs : Lfts 2) (a : Dens κs path-typed-kinds.ps) → Determined (path-typed-reads.Post κs a)
+fringewell-path-typed-determined κs a r₁ r₂ s₁ s₂ p q = p ∙ sym q
+
+pub fringewell-path-typed-under-determined : (κs : Lfts 2) (a : Dens κs path-typed-under-kinds.ps)
+    → Determined (path-typed-under-reads.Post κs a)
+fringewell-path-typed-under-determined κs a r₁ r₂ s₁ s₂ p q = p ∙ sym q
 
 -- ---- steps and readings
 

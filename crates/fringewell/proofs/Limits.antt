@@ -12,9 +12,10 @@ use Rattle.bson.specs.Cstring.{Limit, most}
 use Rattle.bson.specs.Step.{Cursor, cursor, Step, yielded, after}
 use Rattle.bson.specs.Value.{elementAtUnder}
 use Rattle.bson.specs.Lookup.{found, getUnder, getWithUnder, getAtUnder}
+use Rattle.bson.specs.Path.{getPathUnder, getPathWithUnder}
 use Rattle.bson.specs.Check.{checkUnder}
 use Rattle.laws.proofs.Common.{split}
-use Rattle.laws.proofs.LimitLaws.{step-beyond, get-beyond, get-with-beyond, check-beyond}
+use Rattle.laws.proofs.LimitLaws.{step-beyond, get-beyond, get-with-beyond, path-beyond, path-with-beyond, check-beyond}
 use Rattle.cstr.specs.Said.{limitOf, capped}
 use Rattle.cstr.proofs.Limits.{capped-says}
 use Rattle.c_answers.specs.Numbers.{stepped, stepRead}
@@ -36,6 +37,12 @@ module _ (m n : ℕ) (is : m ≡ capped n) (s : List ℕ) (short : length s < 0x
 
   pub lookup-typed-passed : (key : List ℕ) (tag : ℕ) → getWithUnder (limitOf m) s key tag ≡ getWithUnder (most n) s key tag
   lookup-typed-passed key tag = passed (λ (l : Limit). getWithUnder l s key tag) (λ k i j. get-with-beyond k n s i j key tag)
+
+  pub path-passed : (path : List ℕ) → getPathUnder (limitOf m) s path ≡ getPathUnder (most n) s path
+  path-passed path = passed (λ (l : Limit). getPathUnder l s path) (λ k i j. path-beyond k n s i j path)
+
+  pub path-typed-passed : (path : List ℕ) (tag : ℕ) → getPathWithUnder (limitOf m) s path tag ≡ getPathWithUnder (most n) s path tag
+  path-typed-passed path tag = passed (λ (l : Limit). getPathWithUnder l s path tag) (λ k i j. path-with-beyond k n s i j path tag)
 
   pub step-passed : (c : Cursor) → stepsUnder (limitOf m) s c ≡ stepsUnder (most n) s c
   step-passed c =

@@ -6,6 +6,7 @@ ghost use Rattle.bson.specs.Check.{checkUnder, check};
 ghost use Rattle.bson.specs.Cstring.{most};
 ghost use Rattle.bson.specs.Grammar as grammar;
 ghost use Rattle.bson.specs.Lookup.{getUnder, getWithUnder, getAtUnder, get, getWith, getAt, isEmpty};
+ghost use Rattle.bson.specs.Path.{getPathUnder, getPathWithUnder, getPath, getPathWith};
 ghost use Rattle.bson.specs.Step.{cursor};
 ghost use Rattle.bson.specs.Value as value;
 ghost use Rattle.bson.specs.Writer as writer;
@@ -96,6 +97,43 @@ pub extern "C" fn fringewell_lookup_typed_under(
     ensures { λ r. ⌜ r ≡ found (getWithUnder (most limit) (now (document .entry)) (now (key .entry)) tag) ⌝ }
 {
     c_answers::of_found(document::get_with_under(document, key, tag, cstr::most_of(limit)))
+}
+
+// What a path leads to.
+#[no_mangle]
+pub extern "C" fn fringewell_path(document: &[u8], path: &[u8]) -> ValueNumbers
+    ensures { λ r. ⌜ r ≡ found (getPath (now (document .entry)) (now (path .entry))) ⌝ }
+{
+    c_answers::of_found(path::get_element(document, path))
+}
+
+// What a path leads to, under a limit.
+#[no_mangle]
+pub extern "C" fn fringewell_path_under(document: &[u8], path: &[u8], limit: usize) -> ValueNumbers
+    ensures { λ r. ⌜ r ≡ found (getPathUnder (most limit) (now (document .entry)) (now (path .entry))) ⌝ }
+{
+    c_answers::of_found(path::get_element_under(document, path, cstr::most_of(limit)))
+}
+
+// What a path leads to, whose value must have this tag.
+#[no_mangle]
+pub extern "C" fn fringewell_path_typed(document: &[u8], path: &[u8], tag: u8) -> ValueNumbers
+    ensures { λ r. ⌜ r ≡ found (getPathWith (now (document .entry)) (now (path .entry)) tag) ⌝ }
+{
+    c_answers::of_found(path::get_with(document, path, tag))
+}
+
+// What a path leads to, whose value must have this tag, under a limit.
+#[no_mangle]
+pub extern "C" fn fringewell_path_typed_under(
+    document: &[u8],
+    path: &[u8],
+    tag: u8,
+    limit: usize,
+) -> ValueNumbers
+    ensures { λ r. ⌜ r ≡ found (getPathWithUnder (most limit) (now (document .entry)) (now (path .entry)) tag) ⌝ }
+{
+    c_answers::of_found(path::get_with_under(document, path, tag, cstr::most_of(limit)))
 }
 
 // The step at a cursor, and the cursor behind it.
@@ -190,9 +228,9 @@ pub extern "C" fn fringewell_join(first: &[u8], second: &[u8], out: &mut [u8]) -
 // The version of this library: a million times the major number, a thousand times the minor one, and the patch.
 #[no_mangle]
 pub extern "C" fn fringewell_version() -> u32
-    ensures { λ r. ⌜ r ≡ 9000 ⌝ }
+    ensures { λ r. ⌜ r ≡ 10000 ⌝ }
 {
-    9000
+    10000
 }
 
 // The writer's state, which C lends: 406 words.

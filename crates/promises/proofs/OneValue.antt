@@ -1,4 +1,4 @@
--- Proof that a value is the same by whichever call C has it (RULES.md, "Values").
+-- Proof that a value is the same by whichever call C has it (RULES.md, "Values" and request 1).
 use Prim.Native.Nat.{ℕ}
 use mathlib.Core.Path.{_≡_, refl, sym, ap, _∙_}
 use mathlib.Core.List.{List}
@@ -9,37 +9,28 @@ use Rattle.bson.specs.Answer.{Answer, gives, refuses}
 use Rattle.bson.specs.Cstring.{Limit}
 use Rattle.bson.specs.Lookup as lookup
 use Rattle.bson.specs.Lookup.{Found, getUnder, getWithUnder, getAtUnder}
+use Rattle.bson.specs.Path.{getPathUnder, getPathWithUnder}
 use Rattle.bson.specs.Step.{Cursor, cursor, Element, Step, yield, end, stepUnder, after}
 use Rattle.bson.specs.Value.{Value, valueOf, elementAtUnder}
-use Rattle.laws.proofs.LookupLaws.{FoundAt, get-finds, get-with-says, had-there}
+use Rattle.laws.proofs.AlongLaws.{path-finds, path-with-finds}
+use Rattle.laws.proofs.LookupLaws.{FoundAt, get-finds, get-with-finds, had-there}
 use Rattle.laws.proofs.ReadLaws.{value-refused}
 use Rattle.laws.proofs.ReadRefusals.{NoZero, no-zero, value-in}
 use Rattle.laws.proofs.StepLaws.{step-yields}
 use Rattle.c_answers.specs.Numbers.{found, stepped, yielded, stepRead}
 use Rattle.c_answers.specs.declared.ElementNumbers.{ElementNumbers}
 use Rattle.c_answers.specs.declared.ValueNumbers.{ValueNumbers}
-use Rattle.c_answers.proofs.ValueTells.{get-looks, get-with-looks}
+use Rattle.c_answers.proofs.ValueTells.{get-looks, get-with-looks, path-looks, path-with-looks}
 use Rattle.fringewell.specs.Left.{stepsUnder, readsUnder}
-use Rattle.promises.specs.OneValue.{asStep, asRead, readThere, OneValue}
+use Rattle.promises.specs.OneValue.{asStep, asRead, readThere, AsThere, OneValue}
 
 module _ (limit : Limit) (s : List ℕ) where
-  -- ---- lookups
+  -- ---- lookups and paths
 
-  found-there : (a : Answer Found) → NoZero a → ((f : Found) → a ≡ gives f → FoundAt limit s f) → found a .number ≡ 0
-      → found a ≡ readThere limit s (found a .place)
-  found-there (gives f) h k z = sym (ap found (had-there limit s f (k f refl)))
-  found-there (refuses number place) h k z = absurd (omega arith)
-
-  lookup-there : (key : List ℕ) (n : ValueNumbers) → n ≡ found (getUnder limit s key) → n .number ≡ 0 → n ≡ readThere limit s (n .place)
-  lookup-there key n q =
-      rw q (found-there (getUnder limit s key) (get-looks limit s key .numbered) (get-finds limit s key))
-
-  lookup-typed-there : (key : List ℕ) (tag : ℕ) (n : ValueNumbers) → n ≡ found (getWithUnder limit s key tag) → n .number ≡ 0
-      → n ≡ readThere limit s (n .place)
-  lookup-typed-there key tag n q =
-      rw q
-      (found-there (getWithUnder limit s key tag) (get-with-looks limit s key tag .numbered)
-      (λ f x. get-finds limit s key f (get-with-says limit s key tag f x .0)))
+  -- of an answer that finds at its place
+  found-there : (a : Answer Found) → NoZero a → ((f : Found) → a ≡ gives f → FoundAt limit s f) → AsThere limit s a
+  found-there (gives f) h k n q z = rw q (sym (ap found (had-there limit s f (k f refl))))
+  found-there (refuses number place) h k n q z = let same = ap (λ (m : ValueNumbers). m .number) q in absurd (omega arith)
 
   -- ---- steps that read
 
@@ -90,4 +81,14 @@ module _ (limit : Limit) (s : List ℕ) where
   next-reads c n q = rw q (reads-by c (stepUnder limit s c) refl)
 
   pub one-value : OneValue limit s
-  one-value = record { lookup = lookup-there; typed = lookup-typed-there; step = next-step; reads = next-reads }
+  one-value =
+      record {
+        lookup = λ key. found-there (getUnder limit s key) (get-looks limit s key .numbered) (get-finds limit s key);
+        typed = λ key tag.
+            found-there (getWithUnder limit s key tag) (get-with-looks limit s key tag .numbered) (get-with-finds limit s key tag);
+        path = λ path. found-there (getPathUnder limit s path) (path-looks limit s path .numbered) (path-finds limit s path);
+        typed-path = λ path tag.
+            found-there (getPathWithUnder limit s path tag) (path-with-looks limit s path tag .numbered) (path-with-finds limit s path tag);
+        step = next-step;
+        reads = next-reads;
+      }

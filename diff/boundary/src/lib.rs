@@ -102,6 +102,10 @@ reading! {
     fringewell_lookup_under(key: *const u8, key_length: usize, limit: usize) -> Value;
     fringewell_lookup_typed(key: *const u8, key_length: usize, tag: u8) -> Value;
     fringewell_lookup_typed_under(key: *const u8, key_length: usize, tag: u8, limit: usize) -> Value;
+    fringewell_path(path: *const u8, path_length: usize) -> Value;
+    fringewell_path_under(path: *const u8, path_length: usize, limit: usize) -> Value;
+    fringewell_path_typed(path: *const u8, path_length: usize, tag: u8) -> Value;
+    fringewell_path_typed_under(path: *const u8, path_length: usize, tag: u8, limit: usize) -> Value;
     fringewell_next(offset: usize, ended: bool) -> Element;
     fringewell_next_under(offset: usize, ended: bool, limit: usize) -> Element;
     fringewell_step(offset: usize, ended: bool) -> Stepped;

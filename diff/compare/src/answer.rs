@@ -74,12 +74,29 @@ pub struct Said {
 pub struct Numbers {
     malformed: &'static [u32],
     limited: bool,
+    /// One that the Rust does not have.
+    added: Option<u32>,
 }
 
 impl Numbers {
     fn new(malformed: &'static [u32], limit: Limit) -> Self {
-        let limited = limit.is_some();
-        Self { malformed, limited }
+        Self {
+            malformed,
+            limited: limit.is_some(),
+            added: None,
+        }
+    }
+
+    /// Of the strict check.
+    pub fn or_bad_key(self) -> Self {
+        let added = Some(19);
+        Self { added, ..self }
+    }
+
+    /// Of a path.
+    pub fn or_long_path(self) -> Self {
+        let added = Some(21);
+        Self { added, ..self }
     }
 
     pub fn admission() -> Self {
@@ -108,7 +125,7 @@ impl Numbers {
             13 => "recursion",
             16 => "not-present",
             17 => "unexpected-type",
-            19 => "added",
+            _ if self.added == Some(number) => "added",
             _ if self.malformed.contains(&number) => "malformed",
             _ => STRAY,
         }
@@ -321,13 +338,19 @@ pub enum Part<'a> {
     DeepCheck,
     Get(&'a [u8]),
     Typed(&'a [u8], u8),
+    Path(&'a [u8]),
+    TypedPath(&'a [u8], u8),
     Call(usize),
     Bytes,
     Behind,
 }
 
 impl Part<'_> {
-    /// The same for every place and key: what a smaller case must still disagree in.
+    pub fn is_path(&self) -> bool {
+        matches!(self, Self::Path(_) | Self::TypedPath(..))
+    }
+
+    /// The same for every place, key and path: what a smaller case must still disagree in.
     pub fn word(&self) -> &'static str {
         match self {
             Self::Empty => "is_empty",
@@ -341,6 +364,8 @@ impl Part<'_> {
             Self::DeepCheck => "check, by the Rust's own walk",
             Self::Get(_) => "get",
             Self::Typed(..) => "typed lookup",
+            Self::Path(_) => "path",
+            Self::TypedPath(..) => "typed path",
             Self::Call(_) => "writer's call",
             Self::Bytes => "written bytes",
             Self::Behind => "bytes behind those written",
@@ -348,7 +373,7 @@ impl Part<'_> {
     }
 }
 
-/// A key in hexadecimal; of a long one how it begins.
+/// A key or a path in hexadecimal; of a long one how it begins.
 fn shown(key: &[u8]) -> String {
     const MOST: usize = 256;
     match key.get(..MOST) {
@@ -363,8 +388,10 @@ impl fmt::Display for Part<'_> {
         match self {
             Self::Step(at) | Self::EndedStep(at) | Self::Read(at) => write!(f, "{word} at {at}"),
             Self::Next(at) | Self::EndedNext(at) => write!(f, "{word} at {at}"),
-            Self::Get(key) => write!(f, "{word} [{}]", shown(key)),
-            Self::Typed(key, tag) => write!(f, "{word} [{}] {tag:02x}", shown(key)),
+            Self::Get(key) | Self::Path(key) => write!(f, "{word} [{}]", shown(key)),
+            Self::Typed(key, tag) | Self::TypedPath(key, tag) => {
+                write!(f, "{word} [{}] {tag:02x}", shown(key))
+            }
             Self::Call(number) => write!(f, "{word} {number}"),
             _ => write!(f, "{word}"),
         }

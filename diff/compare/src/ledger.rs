@@ -17,6 +17,8 @@ pub struct Disagreement {
 pub struct Ledger {
     pub answers: u64,
     pub numbers: [u64; NUMBERS],
+    /// Those of paths among them.
+    pub of_paths: [u64; NUMBERS],
     /// The first of the case at hand.
     pub first: Option<Disagreement>,
     /// Ask all there is to ask, as for a single case: every wrong tag, every absent key.
@@ -28,8 +30,10 @@ pub struct Ledger {
 impl Ledger {
     pub fn hold(&mut self, part: Part, rust: Answer, library: Said) {
         self.answers += 1;
-        if let Some(met) = self.numbers.get_mut(library.number as usize) {
-            *met += 1;
+        let number = library.number as usize;
+        if number < NUMBERS {
+            self.numbers[number] += 1;
+            self.of_paths[number] += u64::from(part.is_path());
         }
         if self.show > 0 {
             self.show -= 1;
@@ -63,8 +67,9 @@ impl Ledger {
 
     pub fn add(&mut self, other: &Ledger) {
         self.answers += other.answers;
-        for (sum, met) in self.numbers.iter_mut().zip(other.numbers) {
-            *sum += met;
+        for number in 0..NUMBERS {
+            self.numbers[number] += other.numbers[number];
+            self.of_paths[number] += other.of_paths[number];
         }
     }
 }

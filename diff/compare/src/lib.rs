@@ -14,6 +14,7 @@ mod long;
 mod lookups;
 mod nest;
 mod panics;
+mod paths;
 mod report;
 mod rng;
 mod run;

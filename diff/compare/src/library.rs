@@ -42,6 +42,17 @@ impl Lent<'_> {
         }
     }
 
+    /// A lookup by a path, typed where there is a tag.
+    pub fn path(self, path: &[u8], tag: Option<u8>) -> Value {
+        let (at, size) = (path.as_ptr(), path.len());
+        match tag {
+            Some(tag) => {
+                call!(self, fringewell_path_typed or fringewell_path_typed_under(at, size, tag))
+            }
+            None => call!(self, fringewell_path or fringewell_path_under(at, size)),
+        }
+    }
+
     pub fn step(self, offset: usize, ended: bool) -> Stepped {
         call!(self, fringewell_step or fringewell_step_under(offset, ended))
     }

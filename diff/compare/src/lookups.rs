@@ -12,12 +12,12 @@ use crate::library::Lent;
 use crate::slice::framed;
 
 /// The tags that have a getter.
-const GETTERS: [u8; 12] = [
+pub const GETTERS: [u8; 12] = [
     0x01, 0x02, 0x03, 0x04, 0x05, 0x07, 0x08, 0x09, 0x0B, 0x10, 0x11, 0x12,
 ];
 
 /// No document has this key, so its answer is that of every key that matches nothing.
-const NOWHERE: &str = "\0";
+pub const NOWHERE: &str = "\0";
 
 /// Without a limit every key of the document's own is asked, under one the key whose turn it is.
 pub fn compare(doc: &RawDocument, lent: Lent, asked: &Asked, ledger: &mut Ledger) {
@@ -32,23 +32,23 @@ pub fn compare(doc: &RawDocument, lent: Lent, asked: &Asked, ledger: &mut Ledger
 }
 
 /// Takes questions in turn, in the same way for the same document.
-fn turn(bytes: &[u8]) -> usize {
+pub fn turn(bytes: &[u8]) -> usize {
     let sum = |sum: usize, byte: &u8| sum.wrapping_mul(31).wrapping_add(usize::from(*byte));
     bytes.iter().take(64).fold(bytes.len(), sum)
 }
 
-/// All the keys, or the one whose turn it is.
-fn some<'k, 'a>(keys: &'k [&'a [u8]], all: bool, turn: usize) -> &'k [&'a [u8]] {
-    if all || keys.is_empty() {
-        return keys;
+/// All of these, or the one whose turn it is.
+pub fn some<T>(each: &[T], all: bool, turn: usize) -> &[T] {
+    if all || each.is_empty() {
+        return each;
     }
-    let one = turn % keys.len();
-    &keys[one..=one]
+    let one = turn % each.len();
+    &each[one..=one]
 }
 
 /// `get`, then the getter of the right tag and one of another, or all twelve.
 fn by_key(doc: &RawDocument, lent: Lent, key: &[u8], ledger: &mut Ledger) {
-    let (place, found) = find(doc, key, lent.limit);
+    let (place, found) = find(lent.bytes, doc, key, lent.limit);
     let lookup = Lookup {
         doc,
         lent,
@@ -96,18 +96,15 @@ impl Lookup<'_> {
             Some(tag) => Part::Typed(self.key, tag),
             None => Part::Get(self.key),
         };
-        ledger.hold(part, self.located(answer), said);
+        ledger.hold(part, located(answer, self.place, &self.found), said);
     }
+}
 
-    /// The Rust's answer to a lookup, with the element.
-    fn located(&self, answer: Result<Value, Kind>) -> Answer {
-        let place = self.place;
-        match (answer, &self.found) {
-            (Err(kind), _) => Answer::Refused { kind, place },
-            (Ok(value), Some(element)) => {
-                Answer::Value(framed(element), Content::of(element, value))
-            }
-            (Ok(_), None) => Answer::Torn("found what its iteration does not yield"),
-        }
+/// The Rust's answer to a lookup, with the element.
+pub fn located(answer: Result<Value, Kind>, place: usize, found: &Option<Element>) -> Answer {
+    match (answer, found) {
+        (Err(kind), _) => Answer::Refused { kind, place },
+        (Ok(value), Some(element)) => Answer::Value(framed(element), Content::of(element, value)),
+        (Ok(_), None) => Answer::Torn("found what its iteration does not yield"),
     }
 }

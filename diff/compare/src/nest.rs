@@ -8,14 +8,20 @@ use crate::texts::{Text, Texts};
 /// The depth that RULES.md allows; inside a scope it is two more.
 const MOST: usize = 200;
 
-/// A nest whose innermost value lies around the deepest depth.
+/// A nest whose innermost value lies around the deepest depth. Paths lead through those without a scope.
 pub fn nest(rng: &mut Rng) -> Draft {
     let mut draft = Draft::default();
+    let scopes = !rng.once_in(4);
     let depth = MOST - 5 + rng.below(8);
     let mut open = vec![(draft.begin(), None)];
     let mut reached = 0;
     while reached < depth {
-        let tag = rng.pick(&[0x03, 0x04, 0x03, 0x04, 0x0F]);
+        let tags: &[u8] = if scopes {
+            &[0x03, 0x04, 0x03, 0x04, 0x0F]
+        } else {
+            &[0x03, 0x04]
+        };
+        let tag = rng.pick(tags);
         reached += if tag == 0x0F { 2 } else { 1 };
         let bad = rng.once_in(500);
         let key = rng.pick(&[b"" as &[u8], b"1", b"00"]);

@@ -3,15 +3,18 @@
 use oracle::step::Limit;
 
 use crate::cases::{case, Case, Sort, SORTS};
-use crate::ledger::{Disagreement, Ledger};
+use crate::ledger::{Disagreement, Ledger, NUMBERS};
 use crate::limits;
 use crate::run::{Outcome, Plan};
 use crate::session::written;
 use crate::shrink::{self, Limited};
 use crate::slice;
 
-/// The numbers by which reading refuses: a run that meets fewer shows too little.
-const READING: [usize; 17] = [1, 2, 3, 4, 5, 6, 7, 8, 9, 10, 11, 12, 13, 16, 17, 19, 22];
+/// The numbers by which reading refuses, and paths among it: a run that meets fewer shows too little.
+const READING: [usize; 18] = [
+    1, 2, 3, 4, 5, 6, 7, 8, 9, 10, 11, 12, 13, 16, 17, 19, 21, 22,
+];
+const PATHS: [usize; 16] = [1, 2, 3, 4, 5, 6, 7, 8, 9, 10, 11, 12, 16, 17, 21, 22];
 
 /// Prints the outcome; true where nothing disagrees and every number was met.
 pub fn outcome(plan: &Plan, outcome: &Outcome) -> bool {
@@ -28,18 +31,25 @@ pub fn outcome(plan: &Plan, outcome: &Outcome) -> bool {
     println!("{} answers compared", outcome.ledger.answers);
     println!("{}", refusals(&outcome.ledger));
     println!("{cases} cases, 0 disagree");
-    let met = |number: usize| outcome.ledger.numbers[number] > 0;
-    let missing: Vec<_> = READING.iter().filter(|number| !met(**number)).collect();
+    let all = is_met("refusals", &READING, &outcome.ledger.numbers);
+    all & is_met("refusals of paths", &PATHS, &outcome.ledger.of_paths)
+}
+
+/// Whether every one of these numbers was met; prints those that were not.
+fn is_met(name: &str, numbers: &[usize], met: &[u64; NUMBERS]) -> bool {
+    let missing: Vec<_> = numbers.iter().filter(|number| met[**number] == 0).collect();
     if !missing.is_empty() {
-        println!("too few cases: refusals that were not met: {missing:?}");
+        println!("too few cases: {name} that were not met: {missing:?}");
     }
     missing.is_empty()
 }
 
-/// How often each number was met.
+/// How often each number was met, by all calls and by those of a path.
 fn refusals(ledger: &Ledger) -> String {
-    let each = READING.map(|number| format!("{number}: {}", ledger.numbers[number]));
-    format!("refusals, number by number: {}", each.join(", "))
+    let all = READING.map(|number| format!("{number}: {}", ledger.numbers[number]));
+    let paths = PATHS.map(|number| format!("{number}: {}", ledger.of_paths[number]));
+    let (all, paths) = (all.join(", "), paths.join(", "));
+    format!("refusals, number by number: {all}\nthose of paths: {paths}")
 }
 
 fn sort_line(sort: Sort, count: u64) -> String {

@@ -11,6 +11,7 @@ use crate::ledger::Ledger;
 use crate::library::{is_empty, Lent};
 use crate::lookups;
 use crate::panics::caught;
+use crate::paths;
 
 /// Zeros behind the slice, where a reading past its end would find what it looks for.
 const BEHIND: [u8; 16] = [0; 16];
@@ -65,6 +66,7 @@ fn refused(lent: Lent, kind: Kind, ledger: &mut Ledger) {
     let found = |tag| Said::value(lent.lookup(b"a", tag), numbers);
     ledger.hold(Part::Get(b"a"), rust, found(None));
     ledger.hold(Part::Typed(b"a", 0x10), rust, found(Some(0x10)));
+    paths::compare_refused(rust, lent, ledger);
 }
 
 fn admitted(doc: &RawDocument, lent: Lent, ledger: &mut Ledger) {
@@ -76,6 +78,7 @@ fn admitted(doc: &RawDocument, lent: Lent, ledger: &mut Ledger) {
     let asked = steps(doc, lent, ledger);
     checks(doc, lent, ledger);
     lookups::compare(doc, lent, &asked, ledger);
+    paths::compare(doc, lent, ledger);
 }
 
 /// Holds both calls that step from a cursor to the Rust's step: the one, and the one that reads what the step yields.
@@ -203,7 +206,8 @@ fn checks(doc: &RawDocument, lent: Lent, ledger: &mut Ledger) {
         kind: "added",
         place,
     });
-    let said = Said::verdict(lent.check_strict(), Numbers::reading(lent.limit));
+    let numbers = Numbers::reading(lent.limit).or_bad_key();
+    let said = Said::verdict(lent.check_strict(), numbers);
     ledger.hold(Part::StrictCheck, strict, said);
 }
 

@@ -15,7 +15,7 @@ use lookup::Question;
 use step::{kind, Element, Limit, Refusal, Steps};
 use value::{starred, Content, Reading};
 
-/// The answer line to a case line `document HEX; get KEY; typed KEY TAG; ..`, or what is wrong with the case.
+/// The answer line to a case line `document HEX; get KEY; typed KEY TAG; path PATH; ..`, or what is wrong with the case.
 /// Behind `limited M` in front of it every answer is one under the limit M.
 /// Where the Rust panics the line ends with `panicked`; the message is the caller's to silence.
 pub fn answer(case: &str) -> Result<String, String> {
@@ -74,7 +74,7 @@ impl Line {
         self.push("strict", "*");
         self.push("empty", if doc.is_empty() { "yes" } else { "no" });
         for question in questions {
-            self.push(question.part, question.ask(doc, self.limit));
+            self.ask(question, |limit| question.ask(doc, limit));
         }
     }
 
@@ -85,8 +85,17 @@ impl Line {
         self.push("strict", "*");
         self.push("empty", &refusal);
         for question in questions {
-            self.push(question.part, &refusal);
+            self.ask(question, |_| refusal.to_string());
         }
+    }
+
+    /// A path of too many keys is refused by a number that the Rust does not have.
+    fn ask(&mut self, question: &Question, answer: impl Fn(Limit) -> String) {
+        let answer = match question.is_too_long() {
+            true => "*".into(),
+            false => answer(self.limit),
+        };
+        self.push(question.part, answer);
     }
 
     fn steps(&mut self, doc: &RawDocument) {
