@@ -15,7 +15,7 @@ from pathlib import Path
 ROOT = Path(__file__).resolve().parents[2]
 ERROR = re.compile(r"^(?:note: )?\S*?/(proofs|specs)/([^:\s]+?)(?:/[^/:\s]+)?:\d+:\d+: error: (.*)", re.M)
 # errors that refute no fact: of whoever needs what was refused, of a name that is not there, of code that was not looked at
-NO_FACT = ("was not admitted (", "is not in scope", "that can be named from here", "has no field")
+NO_FACT = ("was not admitted (", "because it was not admitted", "is not in scope", "that can be named from here", "has no field")
 
 
 def named(text):
