@@ -1,15 +1,16 @@
 -- The keys of a path: what stands before its first zero byte, and the keys of what stands behind it (RULES.md, request 1).
-use Prim.Native.Nat.{ℕ, suc, _+_, _<_}
+use Prim.Native.Nat.{ℕ, suc, _+_, _≤_, _<_}
 use mathlib.Core.Path.{_≡_, refl}
 use mathlib.Core.List.{List, [], _∷_, _++_}
 use native.Mathlib.Nat.{not-suc-le-zero, le-of-suc-le-suc}
 use native.Mathlib.Numerals.{add-one}
 use native.Mathlib.Omega.{arith}
 use lib.ListN.{length, take, drop}
-use Rattle.bson.specs.Answer.{gives}
+use borrow.Author.Tests.{le-leb, lt-leb}
+use Rattle.bson.specs.Answer.{gives, refuses}
 use Rattle.bson.specs.Cstring.{isZero, firstZero, Limit}
 use Rattle.bson.specs.Lookup.{Found}
-use Rattle.bson.specs.Path.{keysOf, getPathUnder, getPathWithUnder}
+use Rattle.bson.specs.Path.{keysOf, lookAlong, getPathUnder, getPathWithUnder}
 use Rattle.laws.proofs.Common.{split}
 use Rattle.laws.proofs.LookupLaws.{of-tag-says}
 
@@ -41,6 +42,18 @@ keys-behind (b ∷ key) rest e =
     split (isZero b)
     (λ t. let z : 0 ≡ suc (length key) = rw t at e in absurd (omega arith))
     (λ t. let z : suc (firstZero key) ≡ suc (length key) = rw t at e in rw (t, keys-behind key rest (omega arith)))
+
+-- ---- how many keys there may be
+
+module _ (limit : Limit) (s path : List ℕ) where
+  -- so many are looked up one after the other
+  pub path-short : length (keysOf path .1) ≤ 200 → getPathUnder limit s path ≡ lookAlong limit s (keysOf path .0) (keysOf path .1)
+  unfolding getPathUnder
+  path-short i = rw (le-leb _ _ i)
+
+  pub path-long : 200 < length (keysOf path .1) → getPathUnder limit s path ≡ refuses 21 0
+  unfolding getPathUnder
+  path-long i = rw (lt-leb _ _ i)
 
 -- ---- with a tag
 

@@ -7,7 +7,7 @@ use mathlib.Core.Bool.{true, false, _||_, true≢false}
 use native.Mathlib.Omega.{arith}
 use lib.ListN.{length, getD, set, take, drop, length-drop}
 use lib.Seq.{take-all}
-use lib.Dec.{leb, eqb}
+use lib.Dec.{eqb}
 use borrow.Author.Tests.{le-leb, lt-ltb, le-ltb, eqb-true, eqb-false}
 use Rattle.bson.specs.Answer.{Answer, gives, refuses, then, at}
 use Rattle.bson.specs.Bytes.{Part, part, bytes}
@@ -21,7 +21,7 @@ use Rattle.laws.proofs.Common.{split}
 use Rattle.laws.proofs.CstringLaws.{cut-short}
 use Rattle.laws.proofs.BytesLaws.{bytes-length}
 use Rattle.laws.proofs.PartLaws.{PartEnds, parts-inside}
-use Rattle.laws.proofs.PathLaws.{keys-last, keys-more}
+use Rattle.laws.proofs.PathLaws.{keys-last, keys-more, path-short}
 use Rattle.laws.proofs.AlongLaws.{entered-ends, document-entered, array-entered, other-stops}
 use Rattle.laws.proofs.MovedLaws.{bytes-moved, moved-again, found-moved}
 use Rattle.laws.specs.FramedAt.{FramedAt}
@@ -126,19 +126,7 @@ told-found s told base c e a y small l t u v q =
 -- ---- the path at this level
 
 module _ (limit : Limit) (s path : List ℕ) where
-  abbrev looked : Answer Found
-  looked = lookAlong limit s (keysOf path .0) (keysOf path .1)
-
-  -- too many keys are refused first of all
-  pub path-long : leb (length (keysOf path .1)) 200 ≡ false → getPathUnder limit s path ≡ refuses 21 0
-  unfolding getPathUnder
-  path-long t = rw t
-
   module _ (few : length (keysOf path .1) ≤ 200) where
-    path-few : getPathUnder limit s path ≡ looked
-    unfolding getPathUnder
-    path-few = rw (le-leb _ _ few)
-
     module _ (size : ℕ) (z : size ≡ firstZero path) (below : size ≤ length path) where
       first-key : keysOf path .0 ≡ take size path
       first-key =
@@ -150,7 +138,7 @@ module _ (limit : Limit) (s path : List ℕ) where
 
       -- a key that is absent, or damage before it
       pub level-refused : (n p : ℕ) → findUnder limit s (take size path) ≡ refuses n p → getPathUnder limit s path ≡ refuses n p
-      level-refused n p x = path-few ∙ refused-along limit s (keysOf path .0) (keysOf path .1) n p (ap (findUnder limit s) first-key ∙ x)
+      level-refused n p x = path-short limit s path few ∙ refused-along limit s (keysOf path .0) (keysOf path .1) n p (ap (findUnder limit s) first-key ∙ x)
 
       module _ (e : Element) (x : findUnder limit s (take size path) ≡ gives e) where
         -- the last key
@@ -159,7 +147,7 @@ module _ (limit : Limit) (s path : List ℕ) where
         level-last l =
             let k = keys-last path (sym z ∙ l) in
             let q : findUnder limit s path ≡ gives e = rw (take-all size path (omega arith)) at x in
-            path-few ∙ rw (k, q)
+            path-short limit s path few ∙ rw (k, q)
 
         module _ (more : size < length path) where
           abbrev rest : List ℕ
@@ -177,7 +165,7 @@ module _ (limit : Limit) (s path : List ℕ) where
           unfolding getUnder found valueOf getPathUnder
           on-the-way =
               let k = keys-more path (rw (← z) more) in
-              path-few ∙ rw (le-leb _ _ level-fewer, k, ← z, x) (read-enters e (valueIn s (e .tag) (e .value)) _)
+              path-short limit s path few ∙ rw (le-leb _ _ level-fewer, k, ← z, x) (read-enters e (valueIn s (e .tag) (e .value)) _)
 
           pub level-stopped : (n : ℕ) → Enters s e ≡ refuses n (e .place) → getPathUnder limit s path ≡ refuses n (e .place)
           level-stopped n q = on-the-way ∙ rw q

@@ -9,7 +9,7 @@ use lib.Seq.{length-take-le}
 use borrow.Fn.Kinds.{In}
 use borrow.Fn.PlainCycle.{Measures, is, falls, and}
 use borrow.Author.Needs.{needs}
-use borrow.Author.Tests.{leb-true}
+use borrow.Author.Tests.{leb-true, leb-false}
 use Rattle.bson.specs.Answer.{gives}
 use Rattle.bson.specs.Cstring.{isZero}
 use Rattle.bson.specs.Step.{cursor}
@@ -20,13 +20,14 @@ use Rattle.laws.proofs.Common.{rest-part}
 use Rattle.laws.proofs.BytesLaws.{bytes-length, slice-part}
 use Rattle.laws.proofs.CstringLaws.{before-most}
 use Rattle.laws.proofs.LookupLaws.{find-steps, find-place}
+use Rattle.laws.proofs.PathLaws.{path-long}
 use Rattle.laws.proofs.StepLaws.{step-yields}
 use Rattle.laws.specs.FramedAt.{FramedAt}
 use Rattle.cstr.specs.Said.{limitOf}
 use Rattle.document.specs.Said.{saidHit}
 use Rattle.iter.specs.Said.{saidElement}
 use Rattle.part.specs.Said.{saidPart}
-use Rattle.path.proofs.Levels.{first-told, all-told, told-refused, told-found, enters-nest, enters-other, path-long, level-refused}
+use Rattle.path.proofs.Levels.{first-told, all-told, told-refused, told-found, enters-nest, enters-other, level-refused}
 use Rattle.path.proofs.Levels.{level-last, level-fewer, level-stopped, level-inside}
 use Rattle.path.proofs.along.Reads as along
 use Rattle.path.proofs.along.Kinds as along-kinds
@@ -78,7 +79,7 @@ returns t c =
     let a = c .before .before .before .before .before in
     let first = first-told (a .args .told .now) 0 (a .pre .1 .1) in
     told-refused _ _ (a .args .base) 21 0 _ (omega arith) (omega (arith, first, c .before .before .if1 .taken))
-    (path-long _ _ _ (sym (c .before .is-short .ensures) ∙ not-true _ (c .if2 .taken)))
+    (path-long _ _ _ (leb-false _ _ (sym (c .before .is-short .ensures) ∙ not-true _ (c .if2 .taken))))
 
 few : (t : ℕ) (c : along-lts.After-first-zero (calls t) (along-at t) along.Post)
     → length (keysOf (c .before .before .before .before .args .path .now) .1) ≤ 200
