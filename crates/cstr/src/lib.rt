@@ -74,12 +74,12 @@ fn plain_end(v: &[u8]) -> usize
 }
 
 // The offset of the first zero byte, or the length where there is none.
-pub fn first_zero(v: &[u8]) -> usize
-    ensures { λ r. ⌜ r ≡ firstZero (now (v .entry)) ⌝ }
+pub fn first_zero(text: &[u8]) -> usize
+    ensures { λ r. ⌜ r ≡ firstZero (now (text .entry)) ⌝ }
 {
     let mut i = 0;
-    while i < v.len() {
-        if v[i] == 0 {
+    while i < text.len() {
+        if text[i] == 0 {
             return i;
         }
         i += 1;

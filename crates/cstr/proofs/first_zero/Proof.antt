@@ -11,25 +11,25 @@ use Rattle.cstr.proofs.first_zero.Statement.{statement}
 use Rattle.cstr.proofs.first_zero.Tie as tie
 
 abbrev Inv-loop : tie.InvT-loop
-Inv-loop v i₀ i = (i ≤ length v) × (i + firstZero (drop i v) ≡ firstZero v)
+Inv-loop text i₀ i = (i ≤ length text) × (i + firstZero (drop i text) ≡ firstZero text)
 
 abbrev μ-loop : tie.MeasureT-loop
-μ-loop v i₀ i = length v - i
+μ-loop text i₀ i = length text - i
 
 returns : tie.Need-returns Inv-loop μ-loop
 returns c =
     let b = c .before .before .before in
-    omega (arith, before-here isZero (b .before .args .v .now) (b .loop .i) (omega arith) (eq-eqb _ _ (c .if1 .taken)))
+    omega (arith, before-here isZero (b .before .args .text .now) (b .loop .i) (omega arith) (eq-eqb _ _ (c .if1 .taken)))
 
 loop-again : tie.Need-loop-again Inv-loop μ-loop
 loop-again c =
     let b = c .before .before .before in
     let i = b .loop .i in
-    let e = before-not isZero (b .before .args .v .now) i (i + 1) (omega arith) (omega arith) (ne-eqb _ _ (c .if1 .left)) in
+    let e = before-not isZero (b .before .args .text .now) i (i + 1) (omega arith) (omega arith) (ne-eqb _ _ (c .if1 .left)) in
     (omega arith, omega arith)
 
 returns-2 : tie.Need-returns-2 Inv-loop μ-loop
-returns-2 c = omega (arith, before-end isZero (c .before .before .args .v .now) (c .before .loop .i) (omega arith))
+returns-2 c = omega (arith, before-end isZero (c .before .before .args .text .now) (c .before .loop .i) (omega arith))
 
 pub first-zero-spec : {M : Type 1} → statement M
 first-zero-spec =
