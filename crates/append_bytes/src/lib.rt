@@ -1,4 +1,6 @@
 // Texts, binary data and ids, appended to lent state (RULES.md, "Writer and joining").
+#![tactic(auto)]
+
 ghost use Rattle.std.specs.Prelude.{◌≡◌};
 ghost use Rattle.bson.specs.Grammar as grammar;
 ghost use Rattle.bson.specs.Utf8.{utf8};

@@ -1,4 +1,6 @@
 // An element behind the used bytes: its head, then its value; tested in the order 18, 13, 15, 14 (RULES.md, "Writer and joining").
+#![tactic(auto)]
+
 ghost use Rattle.std.specs.Prelude.{◌≡◌, true, [], ◌∷◌, ◌++◌, ◌+◌, ◌≤◌, ◌<◌, ◌^◌, length};
 ghost use Rattle.bson.specs.Answer.{gives};
 ghost use Rattle.bson.specs.Output as paper;

@@ -1,4 +1,6 @@
 // The keys of arrays, as the strict check asks for them (RULES.md, "The whole check").
+#![tactic(auto)]
+
 ghost use Rattle.std.specs.Prelude.{◌≡◌};
 ghost use Rattle.bson.specs.ArrayKey.{good_array_key};
 

@@ -1,4 +1,6 @@
 // Checks one document from standard input many times, by RULES.md, "The whole check"; bench/linear times it from outside.
+#![tactic(auto)]
+
 use libc::{STDIN_FILENO, STDOUT_FILENO};
 use std::num::wrapping_add_usize;
 use whole::Verdict;

@@ -1,5 +1,7 @@
 // How long a document may be, how deep a value may lie, and how many keys a path may have (RULES.md, "The whole check", "Writer and
 // joining", request 1).
+#![tactic(auto)]
+
 
 // The largest length that a length field, an int32, can say.
 pub const MAX_LEN: usize = 2147483647;

@@ -1,10 +1,12 @@
 // The check program: reads one document from standard input and prints its elements and the verdict (RULES.md, "Bytes to try").
+#![tactic(auto)]
+
 ghost use Rattle.std.specs.Prelude.{◌≤◌, length};
 
 use libc::{STDIN_FILENO, STDOUT_FILENO};
 
 // How many bytes were read, and whether a read failed.
-#[derive(Drop)]
+#[derive(Clone, Copy)]
 struct Input {
     size: usize,
     failed: bool,

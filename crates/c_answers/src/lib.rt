@@ -1,4 +1,6 @@
 // Each answer in numbers, for callers in C: 0 is no refusal, and what a refusal does not give is 0 (RULES.md, "Numbers returned").
+#![tactic(auto)]
+
 ghost use Rattle.std.specs.Prelude.{◌+◌, ◌*◌, ◌≡◌};
 ghost use Rattle.document.specs.Said as document;
 ghost use Rattle.iter.specs.Said as iter;
@@ -23,7 +25,7 @@ use whole::Verdict;
 use writer_state::Words;
 
 #[repr(C)]
-#[derive(Drop)]
+#[derive(Clone, Copy)]
 pub struct VerdictNumbers {
     pub number: u32,
     pub place: usize,
@@ -32,7 +34,7 @@ pub struct VerdictNumbers {
 
 // A value: its element's tag, place and framed bytes; what it has as a number; its parts.
 #[repr(C)]
-#[derive(Drop)]
+#[derive(Clone, Copy)]
 pub struct ValueNumbers {
     pub number: u32,
     pub tag: u8,
@@ -48,7 +50,7 @@ pub struct ValueNumbers {
 
 // `ended` and `next`: the cursor behind the step.
 #[repr(C)]
-#[derive(Drop)]
+#[derive(Clone, Copy)]
 pub struct StepNumbers {
     pub number: u32,
     pub tag: u8,
@@ -63,7 +65,7 @@ pub struct StepNumbers {
 
 // An element with its value; `ended` and `next`: the cursor behind the step.
 #[repr(C)]
-#[derive(Drop)]
+#[derive(Clone, Copy)]
 pub struct ElementNumbers {
     pub value: ValueNumbers,
     pub key_offset: usize,
@@ -73,7 +75,7 @@ pub struct ElementNumbers {
 }
 
 #[repr(C)]
-#[derive(Drop)]
+#[derive(Clone, Copy)]
 pub struct JoinedNumbers {
     pub number: u32,
     pub which: u32,
@@ -83,7 +85,7 @@ pub struct JoinedNumbers {
 
 // A text that was shown: its element's tag and place, how many bytes were written, and the part behind the text.
 #[repr(C)]
-#[derive(Drop)]
+#[derive(Clone, Copy)]
 pub struct ShownNumbers {
     pub number: u32,
     pub tag: u8,
@@ -95,7 +97,7 @@ pub struct ShownNumbers {
 
 // `used`: the bytes used afterwards.
 #[repr(C)]
-#[derive(Drop)]
+#[derive(Clone, Copy)]
 pub struct WrittenNumbers {
     pub number: u32,
     pub used: usize,

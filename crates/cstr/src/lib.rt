@@ -1,4 +1,6 @@
 // Zero-ended texts at the front of a part, and keys (src/raw.rs and src/raw/cstr.rs of the Rust).
+#![tactic(auto)]
+
 ghost use Rattle.std.specs.Prelude.{◌≡◌, ◌+◌, ◌≤◌, eqb, ltb, length, drop};
 ghost use Rattle.bson.specs.Bytes.{same};
 ghost use Rattle.bson.specs.Cstring.{first_zero, seen, missing, zero_text, cstring_under, cstring, valid_cstr};

@@ -1,5 +1,7 @@
 // A number in decimal, into a lent buffer: the one place where digits are made (RULES.md, "Writer and joining"), by a table of the
 // powers of ten and subtraction (RULES.md, request 5).
+#![tactic(auto)]
+
 ghost use Rattle.std.specs.Prelude.{◌≡◌, ◌+◌, ◌*◌, ◌^◌, ◌≤◌, ◌<◌, length};
 ghost use Rattle.bson.specs.Decimal.{digits, width, decimal};
 ghost use Rattle.bson.specs.Output.{output, put, put_text};
@@ -63,7 +65,7 @@ pub fn width_of(n: usize) -> usize
 }
 
 // How often a power goes into a number, and what is left.
-#[derive(Drop)]
+#[derive(Clone, Copy)]
 struct Split {
     digit: u8,
     rest: usize,

@@ -1,5 +1,7 @@
 // The writer with its state by value: fresh, opened and closed; what it appends stands in `scalars` and `bytes` (RULES.md, "Writer and
 // joining"; src/raw/doc_writer.rs of the Rust).
+#![tactic(auto)]
+
 pub mod bytes;
 pub mod scalars;
 
@@ -10,13 +12,13 @@ ghost use Rattle.bson.specs.Writer as writer;
 use writer_state::Words;
 
 // The state: how many bytes are used, how many documents are open, and two words for each.
-#[derive(Drop)]
+#[derive(Clone, Copy)]
 pub struct DocWriter {
     pub words: Words,
 }
 
 // The number of the refusal, or 0, and the state afterwards.
-#[derive(Drop)]
+#[derive(Clone, Copy)]
 pub struct Written {
     pub number: u8,
     pub writer: DocWriter,

@@ -1,4 +1,6 @@
 // A document: admission, whether it is empty, lookup (RULES.md, module 5 and "Values"; src/raw/document.rs of the Rust).
+#![tactic(auto)]
+
 ghost use Rattle.std.specs.Prelude.{◌≡◌};
 ghost use Rattle.bson.specs.Answer.{then};
 ghost use Rattle.bson.specs.Step.{admitted};
@@ -16,21 +18,21 @@ use reading::{Located, Reading, Which};
 use value::Value;
 
 // The length of an admitted document, or the number and the place of the refusal.
-#[derive(Drop)]
+#[derive(Clone, Copy)]
 pub enum Admission {
     Is(usize),
     Refused { number: u8, place: usize },
 }
 
 // Whether a document has no element, or the number and the place of the refusal.
-#[derive(Drop)]
+#[derive(Clone, Copy)]
 pub enum Empty {
     Is(bool),
     Refused { number: u8, place: usize },
 }
 
 // The first element of a key and its value, or the number and the place of the refusal.
-#[derive(Drop)]
+#[derive(Clone, Copy)]
 pub enum Found {
     Is { element: Element, value: Value },
     Refused { number: u8, place: usize },
@@ -57,7 +59,7 @@ pub fn is_empty(s: &[u8]) -> Empty
 }
 
 // The element whose key matched, not read yet, or the number and the place of the refusal.
-#[derive(Drop)]
+#[derive(Clone, Copy)]
 pub enum Hit {
     Is(Element),
     Refused { number: u8, place: usize },

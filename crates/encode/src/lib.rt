@@ -1,5 +1,7 @@
 // Numbers as bytes and bits: four bytes, least first, of lengths and the halves of longer numbers; the bits of signed
 // ones (BSON 1.1, "Basic Types").
+#![tactic(auto)]
+
 ghost use Rattle.std.specs.Prelude.{◌≡◌};
 ghost use Rattle.bson.specs.Grammar as grammar;
 ghost use Rattle.bson.specs.Output.{output, put_text};

@@ -1,4 +1,6 @@
 // Checks a frame, says whether its battery is low, and joins the receiver's field behind it.
+#![tactic(auto)]
+
 use doc_writer::scalars;
 use join::Joined;
 use libc::{STDIN_FILENO, STDOUT_FILENO};

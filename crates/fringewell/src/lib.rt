@@ -1,5 +1,7 @@
 // The functions that the C service calls: byte slices and numbers in, structs of numbers out (RULES.md, module 8). Each is one call of
 // what it is named for; what it answers in numbers is in `c_answers`, and include/fringewell.h says it to C.
+#![tactic(auto)]
+
 ghost use Rattle.std.specs.Prelude.{◌≡◌, true, false};
 ghost use Rattle.bson.specs.Check.{check_under, check};
 ghost use Rattle.bson.specs.Cstring.{most};
@@ -258,7 +260,7 @@ pub extern "C" fn fringewell_version() -> u32
 
 // The writer's state, which C lends: 406 words.
 #[repr(C)]
-#[derive(Drop)]
+#[derive(Clone, Copy)]
 pub struct State {
     pub words: Words,
 }

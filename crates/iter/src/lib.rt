@@ -1,4 +1,6 @@
 // The cursor and the step (RULES.md, "Admission and one step"; src/raw/iter.rs of the Rust).
+#![tactic(auto)]
+
 ghost use Rattle.std.specs.Prelude.{◌≡◌, true, false, ◌+◌, ◌%◌, ◌^◌, ◌<◌, length};
 ghost use Rattle.bson.specs.Answer.{at};
 ghost use Rattle.bson.specs.Step.{cursor, yielding_under, step_under, key_at_under, step, key_at};
@@ -8,14 +10,14 @@ ghost use Rattle.iter.specs.Said.{said_cursor, said_element, said_sizes, sized_w
 use part::{Length, Part};
 
 // Where a step begins, and whether the iteration has ended. Any pair gets an answer.
-#[derive(Drop)]
+#[derive(Clone, Copy)]
 pub struct Cursor {
     pub offset: usize,
     pub ended: bool,
 }
 
 // An element: the offset of its tag byte, its tag, its key without the zero, its framed value.
-#[derive(Drop)]
+#[derive(Clone, Copy)]
 pub struct Element {
     pub place: usize,
     pub tag: u8,
@@ -24,7 +26,7 @@ pub struct Element {
 }
 
 // What a step answers, with the cursor behind it.
-#[derive(Drop)]
+#[derive(Clone, Copy)]
 pub enum Step {
     Yield {
         element: Element,
@@ -41,7 +43,7 @@ pub enum Step {
 }
 
 // What a step at an offset answers: an element's tag, and how long its key and its value are. It is flat, so that no caller copies it.
-#[derive(Drop)]
+#[derive(Clone, Copy)]
 pub enum Sizes {
     Yield { tag: u8, key: usize, value: usize },
     End,

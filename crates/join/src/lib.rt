@@ -1,4 +1,6 @@
 // Joining two documents into one in a lent buffer (RULES.md, "Writer and joining").
+#![tactic(auto)]
+
 ghost use Rattle.std.specs.Prelude.{◌≡◌, ◌≤◌, length};
 ghost use Rattle.bson.specs.Join as paper;
 ghost use Rattle.join.specs.Said.{said};
@@ -6,7 +8,7 @@ ghost use Rattle.join.specs.Said.{said};
 use whole::Verdict;
 
 // How many bytes were written, or the number, the place and which document: 1 the first, 2 the second, 0 for 14.
-#[derive(Drop)]
+#[derive(Clone, Copy)]
 pub enum Joined {
     Wrote(usize),
     Refused { number: u8, place: usize, which: u8 },

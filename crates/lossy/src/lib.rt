@@ -1,5 +1,7 @@
 // Damaged text still shown: the text of a value, with EF BF BD for each maximal bad part, put into a lent buffer (RULES.md, request 4;
 // `RawElement::value_utf8_lossy` in src/raw/iter.rs of the Rust).
+#![tactic(auto)]
+
 ghost use Rattle.std.specs.Prelude.{◌+◌, ◌-◌, ◌≤◌, ◌≡◌, leb, length};
 ghost use Rattle.bson.specs.Answer.{gives, unless};
 ghost use Rattle.bson.specs.Lossy as paper;
@@ -20,7 +22,7 @@ use value::texts::Text;
 const REPLACEMENT: [u8; 3] = [0xEF, 0xBF, 0xBD];
 
 // The element, how many bytes of its text were written, and the part behind the text: a DBPointer's id, a code's scope, else an empty one.
-#[derive(Drop)]
+#[derive(Clone, Copy)]
 pub enum Shown {
     Wrote {
         element: Element,

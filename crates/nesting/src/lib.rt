@@ -1,4 +1,6 @@
 // Opening and closing documents and arrays in a lent state (RULES.md, "Writer and joining").
+#![tactic(auto)]
+
 ghost use Rattle.std.specs.Prelude.{◌≡◌, [], ◌∷◌, ◌+◌, ◌-◌, ◌≤◌, ◌<◌, length};
 ghost use Rattle.bson.specs.Grammar as grammar;
 ghost use Rattle.bson.specs.Output.{put};

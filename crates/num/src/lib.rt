@@ -1,42 +1,44 @@
 // Little-endian numbers at the front of a slice (src/raw.rs of the Rust).
+#![tactic(auto)]
+
 ghost use Rattle.std.specs.Prelude.{◌≡◌, ◌≤◌, ◌<◌, length};
 ghost use Rattle.bson.specs.Bytes.{le32, le64, signed, i32, i64};
 ghost use Rattle.bson.specs.Framing.{in_front};
 ghost use Rattle.bson.specs.Value.{bool, timestamp_of};
 ghost use Rattle.num.specs.Said.{said_uint32, said_int32, said_int64, said_double, said_boolean, said_timestamp};
 
-#[derive(Drop)]
+#[derive(Clone, Copy)]
 pub enum Uint32 {
     Is(u32),
     Refused(u8),
 }
 
-#[derive(Drop)]
+#[derive(Clone, Copy)]
 pub enum Int32 {
     Is(i32),
     Refused(u8),
 }
 
-#[derive(Drop)]
+#[derive(Clone, Copy)]
 pub enum Int64 {
     Is(i64),
     Refused(u8),
 }
 
 // A double is handed over by its bits.
-#[derive(Drop)]
+#[derive(Clone, Copy)]
 pub enum Double {
     Bits(u64),
     Refused(u8),
 }
 
-#[derive(Drop)]
+#[derive(Clone, Copy)]
 pub enum Boolean {
     Is(bool),
     Refused(u8),
 }
 
-#[derive(Drop)]
+#[derive(Clone, Copy)]
 pub enum Timestamp {
     Is { increment: u32, seconds: u32 },
     Refused(u8),

@@ -1,4 +1,6 @@
 // A text put into a lent buffer, all of it or nothing (RULES.md, "What every answer is bound to").
+#![tactic(auto)]
+
 ghost use Rattle.std.specs.Prelude.{◌≡◌, ◌+◌, ◌≤◌, ◌<◌, leb, length, take, drop};
 ghost use Rattle.bson.specs.Output.{output, put, put_text};
 

@@ -1,16 +1,18 @@
 // A part of a slice, as an offset and a size, a byte of it, and a length of what lies in it (RULES.md, "What must change shape").
+#![tactic(auto)]
+
 ghost use Rattle.std.specs.Prelude.{◌≡◌, get_or};
 ghost use Rattle.bson.specs.Bytes.{bytes};
 ghost use Rattle.part.specs.Said.{said_part};
 
-#[derive(Drop)]
+#[derive(Clone, Copy)]
 pub struct Part {
     pub offset: usize,
     pub size: usize,
 }
 
 // How many bytes a text or a value has, or the number of the refusal.
-#[derive(Drop)]
+#[derive(Clone, Copy)]
 pub enum Length {
     Is(usize),
     Refused(u8),

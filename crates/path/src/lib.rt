@@ -1,4 +1,6 @@
 // Paths into nested documents: one lookup after another (RULES.md, request 1).
+#![tactic(auto)]
+
 ghost use Rattle.std.specs.Prelude.{◌+◌, ◌≤◌, ◌<◌, ◌^◌, ◌≡◌, leb, length};
 ghost use Rattle.bson.specs.Answer.{refuses};
 ghost use Rattle.bson.specs.Path.{keys_of, get_path_under, get_path_bytes_under, get_path_with_under};

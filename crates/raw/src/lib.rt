@@ -1,5 +1,7 @@
 // Framing: how many bytes the value of a tag has at the front of a part; and admission (RULES.md, "Admission and one step"; src/raw.rs,
 // src/raw/iter.rs and src/raw/document.rs of the Rust).
+#![tactic(auto)]
+
 ghost use Rattle.std.specs.Prelude.{◌≡◌, ◌≤◌, ◌<◌};
 ghost use Rattle.bson.specs.Framing.{length_field, fits, zero_ended, string_size, pointer_size, document_size, binary_size, scope_size};
 ghost use Rattle.bson.specs.Framing.{pattern_options_under, regex_size_under, value_size_under};
@@ -13,7 +15,7 @@ use part::Length;
 use tags::Kind;
 
 // How many bytes a pattern and options have, each without its zero.
-#[derive(Drop)]
+#[derive(Clone, Copy)]
 pub enum PatternOptions {
     Is { pattern: usize, options: usize },
     Refused(u8),

@@ -1,4 +1,6 @@
 // A reader that carries the document and its cursor together (RULES.md, "Values"; `RawIter` in src/raw/iter.rs of the Rust).
+#![tactic(auto)]
+
 ghost use Rattle.std.specs.Prelude.{◌≡◌};
 ghost use Rattle.bson.specs.Step.{cursor, step};
 ghost use Rattle.iter.specs.Said.{said_cursor, cursor_behind, Answers};
@@ -7,7 +9,7 @@ ghost use Rattle.reader.specs.Held.{started, Advances, Steps};
 use iter::{Cursor, Step};
 
 // The document, and the offset and the ended mark of the cursor.
-#[derive(Drop)]
+#[derive(Clone, Copy)]
 pub struct Reader<'a> {
     pub src: &'a [u8],
     pub offset: usize,
@@ -15,14 +17,14 @@ pub struct Reader<'a> {
 }
 
 // What a step answers, and the reader behind it: the next step is that reader's.
-#[derive(Drop)]
+#[derive(Clone, Copy)]
 pub struct Stepped<'a> {
     pub step: Step,
     pub reader: Reader<'a>,
 }
 
 // What a step answers, and the cursor behind it.
-#[derive(Drop)]
+#[derive(Clone, Copy)]
 struct Advanced {
     step: Step,
     offset: usize,

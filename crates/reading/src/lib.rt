@@ -1,4 +1,6 @@
 // Reading a value at a place, and the parts of a value (RULES.md, "Values"; `RawElement::value` in src/raw/iter.rs of the Rust).
+#![tactic(auto)]
+
 pub mod parts;
 
 ghost use Rattle.std.specs.Prelude.{◌≡◌};
@@ -16,19 +18,19 @@ use part::Part;
 use value::{Parsed, Value};
 
 // The value, or the number and the place of the refusal.
-#[derive(Drop)]
+#[derive(Clone, Copy)]
 pub enum Reading {
     Is(Value),
     Refused { number: u8, place: usize },
 }
 
 // The parts of a value in the order in which they lie; empty parts for those that it has not.
-#[derive(Drop)]
+#[derive(Clone, Copy)]
 pub struct TwoParts(pub Part, pub Part);
 
 // Which part of a value: the first is the text, the data, the document, the ObjectId, the decimal128, the pattern, the
 // namespace, the code; the second the options, the DBPointer's ObjectId, the scope.
-#[derive(Drop)]
+#[derive(Clone, Copy)]
 pub enum Which {
     First,
     Second,
@@ -63,7 +65,7 @@ fn value_with(s: &[u8], element: Element, tag: u8) -> Reading
 }
 
 // The element at a place, or the number and the place of the refusal.
-#[derive(Drop)]
+#[derive(Clone, Copy)]
 pub enum Located {
     Is(Element),
     Refused { number: u8, place: usize },

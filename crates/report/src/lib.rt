@@ -1,4 +1,6 @@
 // What the check program prints, put into a lent buffer line by line (RULES.md, "Bytes to try").
+#![tactic(auto)]
+
 ghost use Rattle.std.specs.Prelude.{◌≡◌, ◌<◌, ◌≤◌, length, take};
 ghost use Rattle.bson.specs.Answer.{gives, refuses};
 ghost use Rattle.bson.specs.Output.{output, put_text, put_texts};

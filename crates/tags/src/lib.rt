@@ -1,4 +1,6 @@
 // The tag table: how the value of each tag is sized, in twenty-one rows (src/spec.rs of the Rust).
+#![tactic(auto)]
+
 ghost use Rattle.std.specs.Prelude.{◌≡◌};
 ghost use Rattle.bson.specs.Tags.{sized_of};
 ghost use Rattle.tags.specs.Said.{said};
@@ -47,7 +49,7 @@ pub const MIN_KEY: u8 = 0xFF;
 pub const MAX_KEY: u8 = 0x7F;
 
 // How a value is sized: its framing class, with its size where that is fixed. `Unknown` is of a tag that is not in the table.
-#[derive(Drop)]
+#[derive(Clone, Copy)]
 pub enum Kind {
     Fixed(usize),
     String,
@@ -60,7 +62,7 @@ pub enum Kind {
 }
 
 // A row of the tag table: the tag, and the framing class and fixed size of its values.
-#[derive(Drop)]
+#[derive(Clone, Copy)]
 struct Row {
     tag: u8,
     kind: Kind,

@@ -1,1 +1,3 @@
 // What is true of the definition stands in proofs/. There is no code.
+#![tactic(auto)]
+

@@ -1,5 +1,7 @@
 // Typed lookup: `get_f64`, `get_str` and their like (RULES.md, "Values"; src/raw/document.rs of the Rust). Each refuses with 16, the
 // value's refusal, then 17.
+#![tactic(auto)]
+
 ghost use Rattle.std.specs.Prelude.{◌≡◌};
 ghost use Rattle.bson.specs.Bytes.{le64, i32, i64};
 ghost use Rattle.bson.specs.Framing.{in_front};
@@ -13,32 +15,32 @@ use num::{Boolean, Double, Int32, Int64};
 use reading::Which;
 
 // A double by its bits.
-#[derive(Drop)]
+#[derive(Clone, Copy)]
 pub enum F64 {
     Bits(u64),
     Refused { number: u8, place: usize },
 }
 
-#[derive(Drop)]
+#[derive(Clone, Copy)]
 pub enum Bool {
     Is(bool),
     Refused { number: u8, place: usize },
 }
 
-#[derive(Drop)]
+#[derive(Clone, Copy)]
 pub enum Timestamp {
     Is { increment: u32, seconds: u32 },
     Refused { number: u8, place: usize },
 }
 
-#[derive(Drop)]
+#[derive(Clone, Copy)]
 pub enum I32 {
     Is(i32),
     Refused { number: u8, place: usize },
 }
 
 // An int64, or a datetime's milliseconds.
-#[derive(Drop)]
+#[derive(Clone, Copy)]
 pub enum I64 {
     Is(i64),
     Refused { number: u8, place: usize },

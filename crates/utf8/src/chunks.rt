@@ -5,7 +5,7 @@ ghost use Rattle.utf8.specs.Chunks.{chunk_of, Front};
 use crate::{ascii, table};
 
 // Bytes of whole characters, and behind them those of a maximal bad part, none at the end of the text.
-#[derive(Drop)]
+#[derive(Clone, Copy)]
 pub struct Chunk {
     pub valid: usize,
     pub invalid: usize,

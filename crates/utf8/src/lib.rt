@@ -1,4 +1,6 @@
 // Whether bytes are UTF-8 (RFC 3629): blocks of ASCII are passed over, then a long rest is judged by window, a short one by table.
+#![tactic(auto)]
+
 pub mod chunks;
 mod table;
 mod window;

@@ -1,4 +1,6 @@
 // What a framed value holds (RULES.md, "Values"; src/raw/value.rs of the Rust).
+#![tactic(auto)]
+
 mod inside;
 pub mod texts;
 
@@ -16,7 +18,7 @@ use part::{Length, Part};
 use raw::PatternOptions;
 
 // A value of each type: numbers as numbers, a double by its bits, bytes as parts of the slice.
-#[derive(Drop)]
+#[derive(Clone, Copy)]
 pub enum Value {
     Double(u64),
     String(Part),
@@ -43,7 +45,7 @@ pub enum Value {
 }
 
 // The value, or the number of the refusal.
-#[derive(Drop)]
+#[derive(Clone, Copy)]
 pub enum Parsed {
     Is(Value),
     Refused(u8),

@@ -11,7 +11,7 @@ use part::{Length, Part};
 use tags::Kind;
 
 // The text, and the part behind it: a DBPointer's id, a scope, or an empty one; or the number of the refusal.
-#[derive(Drop)]
+#[derive(Clone, Copy)]
 pub enum Text {
     Is { text: Part, second: Part },
     Refused(u8),

@@ -1,6 +1,8 @@
 // Replays a list from standard input. A line that begins with `document ` is a document with its answers, which are
 // compared; one that begins with `limited ` is one under a limit; one that begins with `write ` is a session of the
 // writer, any other a question: these two are printed again with the answer behind them.
+#![tactic(auto)]
+
 mod documents;
 mod getters;
 mod lookups;
@@ -39,7 +41,7 @@ fn replay_line(line: &[u8], progress: Progress) -> Progress {
 }
 
 // The rest is an unfinished line.
-#[derive(Drop)]
+#[derive(Clone, Copy)]
 struct Lines {
     rest: usize,
     progress: Progress,
@@ -82,7 +84,7 @@ fn fill(space: &mut [u8], held: usize) -> usize
 }
 
 // How many bytes in front of the buffer are an unfinished line.
-#[derive(Drop)]
+#[derive(Clone, Copy)]
 struct Block {
     held: usize,
     ended: bool,

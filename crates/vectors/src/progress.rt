@@ -3,7 +3,7 @@ use crate::text::{say, say_number};
 use iter::Cursor;
 
 // The cursor is what the last step left; it has ended where no step follows.
-#[derive(Drop)]
+#[derive(Clone, Copy)]
 pub struct Progress {
     pub documents: u64,
     pub alike: u64,

@@ -4,7 +4,7 @@ use num::{Boolean, Double, Int32, Int64, Timestamp, Uint32};
 use part::Length;
 
 // Nothing: there is no leaf for it.
-#[derive(Drop)]
+#[derive(Clone, Copy)]
 pub enum Reading {
     Flag(bool),
     Number(u64),

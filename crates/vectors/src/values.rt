@@ -12,7 +12,7 @@ const NAMES: [u8; 165] =
     codewithscope int32 timestamp int64 decimal128 minkey maxkey";
 
 // The number of the name, how many fields there are with it, and the numbers behind it, the first perhaps below 0.
-#[derive(Drop)]
+#[derive(Clone, Copy)]
 pub struct Words {
     name: usize,
     fields: usize,

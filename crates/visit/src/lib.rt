@@ -1,4 +1,6 @@
 // One value of the whole check: its reading, its depth and what it opens (RULES.md, "The whole check").
+#![tactic(auto)]
+
 ghost use Rattle.std.specs.Prelude.{◌+◌, ◌≡◌, false};
 ghost use Rattle.bson.specs.Check.{visit as visitOf};
 ghost use Rattle.iter.specs.Said.{said_element};
@@ -11,7 +13,7 @@ use part::Part;
 use value::{Parsed, Value};
 
 // Where a document lies: whether it is an array, its offset in the outermost slice, the depth of its values.
-#[derive(Drop)]
+#[derive(Clone, Copy)]
 pub struct Level {
     pub array: bool,
     pub base: usize,
@@ -19,7 +21,7 @@ pub struct Level {
 }
 
 // Nothing, or a document in a part of the slice: whether it is an array, how many levels deeper its values lie.
-#[derive(Drop)]
+#[derive(Clone, Copy)]
 pub enum Opening {
     Closed,
     Opens {
@@ -30,7 +32,7 @@ pub enum Opening {
 }
 
 // What a value that passed opens, or the number of its refusal.
-#[derive(Drop)]
+#[derive(Clone, Copy)]
 pub enum Visited {
     Is(Opening),
     Refused(u8),

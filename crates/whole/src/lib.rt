@@ -1,4 +1,6 @@
 // The whole check, plain and strict (RULES.md, module 6 and "The whole check").
+#![tactic(auto)]
+
 ghost use Rattle.std.specs.Prelude.{◌+◌, ◌≤◌, ◌<◌, ◌^◌, ◌≡◌, true, false, length};
 ghost use Rattle.bson.specs.Answer.{refuses};
 ghost use Rattle.bson.specs.ArrayKey.{good_array_key};
@@ -19,7 +21,7 @@ use tags::Kind;
 use visit::{Level, Opening, Visited};
 
 // How many values there are, those inside values included, or the number and the place of the first refusal.
-#[derive(Drop)]
+#[derive(Clone, Copy)]
 pub enum Verdict {
     Accepted(usize),
     Refused { number: u8, place: usize },
@@ -98,7 +100,7 @@ fn walk_document(s: &[u8], strict: bool, level: Level, limit: usize) -> Verdict
 }
 
 // What framing has told of a value: that it can be read and opens nothing, or a document or an array, or nothing yet.
-#[derive(Drop)]
+#[derive(Clone, Copy)]
 enum Framed {
     Closed,
     Opens { array: bool },

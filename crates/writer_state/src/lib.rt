@@ -1,4 +1,6 @@
 // The writer's state, lent as words: which states can be (18), and what they say (RULES.md, "Writer and joining").
+#![tactic(auto)]
+
 ghost use Rattle.std.specs.Prelude.{◌≡◌, ◌≤◌, ◌<◌, ◌^◌};
 ghost use Rattle.bson.specs.Writer as paper;
 ghost use Rattle.writer_state.specs.Said.{said_kind, said};
@@ -15,14 +17,14 @@ pub type Words = [u32; WORDS];
 pub const DOCUMENT_MARK: u32 = 0xFFFF_FFFF;
 
 // What an open document is; an array has so many elements.
-#[derive(Drop)]
+#[derive(Clone, Copy)]
 pub enum Kind {
     Document,
     Array(u32),
 }
 
 // The kind of the innermost, or the number of the refusal.
-#[derive(Drop)]
+#[derive(Clone, Copy)]
 pub enum OpenKind {
     Is(Kind),
     Refused(u8),
