@@ -1,5 +1,5 @@
 -- Which states can be, and the kind of the innermost, as the code tests it (RULES.md, "Writer and joining").
-use Prim.Native.Nat.{ℕ, suc, ◌+◌, ◌-◌, ◌≤◌, ◌<◌}
+use Prim.Native.Nat.{ℕ, zero, suc, ◌+◌, ◌-◌, ◌≤◌, ◌<◌}
 use mathlib.Core.Path.{◌≡◌, ◌∙◌}
 use mathlib.Core.List.{List}
 use mathlib.Core.Bool.{Bool, true, false, ◌&&◌}
@@ -22,6 +22,7 @@ module _ (w : List ℕ) (i end : ℕ) where
 
 stand_turn : (w : List ℕ) (i end : ℕ) → 0 < i → stand w i end ≡ stands w (i - 1) end && stand w (i - 1) (start w (i - 1))
 unfolding stand
+stand_turn w zero end h = elim h [ ]
 stand_turn w (suc i) end h = simp (sub-one)
 
 module _ (w : List ℕ) (i end : ℕ) (h : 0 < i) where

@@ -1,0 +1,14 @@
+-- `decimal::put_by` goes round: what is left to write on the present buffer is the whole on the first.
+use Prim.Native.Nat.{suc, ◌+◌, ◌-◌, ◌^◌, ◌<◌}
+use mathlib.Core.Path.{◌≡◌}
+use lib.ListN.{length}
+use Rattle.bson.specs.Decimal.{digits}
+use Rattle.bson.specs.Output.{put}
+use Rattle.decimal.proofs.put_by.Given as goal
+
+abbrev pub invariant-loop-zeros : goal.invariant-loop-zeros
+invariant-loop-zeros l = (l.place + suc l.zeros ≡ l.at + l.k) × (l.zeros < length l.powers) × (length l.out ≡ length l.initial.out) × (l.rest < 10 ^ suc l.zeros)
+    × (put l.out l.place (digits (suc l.zeros) l.rest) ≡ put l.initial.out l.at (digits l.k l.n))
+
+abbrev pub decreases-loop-zeros : goal.decreases-loop-zeros
+decreases-loop-zeros l = l.zeros

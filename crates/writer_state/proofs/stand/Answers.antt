@@ -1,0 +1,21 @@
+-- `writer_state::stand` meets its contract: each turn tests one open document and leaves those around it.
+use mathlib.Core.Path.{sym, ◌∙◌}
+use native.Mathlib.Omega.{arith}
+use borrow.Author.Tests.{not-true, not-false}
+use Rattle.writer_state.proofs.Tests.{stand_refused, stand_onward, stand_last}
+use Rattle.writer_state.proofs.stand.Goals as goal
+
+pub returns-then-not-stands : goal.returns-then-not-stands
+returns-then-not-stands c =
+    sym (stand_refused _ _ _ (omega arith) (sym c.stands.ensures ∙ not-true _ c.if-not-stands.true-raw)) ∙ c.loop-i.invariant.1
+
+pub loop-i-preserved : goal.loop-i-preserved
+loop-i-preserved c =
+    let l = c.loop-i in (
+      omega arith,
+      sym (stand_onward _ _ _ (omega arith) (sym c.stands.ensures ∙ not-false _ c.if-not-stands.false-raw)) ∙
+          l.invariant.1,
+    )
+
+pub returns : goal.returns
+returns c = sym (stand_last _ _ _ (omega arith)) ∙ c.loop-i.invariant.1
