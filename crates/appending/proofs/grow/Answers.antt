@@ -8,7 +8,7 @@ use Rattle.appending.proofs.grow.Goals as goal
 pub overflow_add-words-in-Array : goal.overflow_add-words-in-Array
 unfolding kind_holds said_kind
 overflow_add-words-in-Array c =
-    let h = rw c.in-Array.is at c.requires.1 in
+    let h = rw c.in-Array.is at c.requires.kind_value in
     omega (arith, leb-true c.in-Array.count 2147483647 h)
 
 pub returns-in-Array : goal.returns-in-Array

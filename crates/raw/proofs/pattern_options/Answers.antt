@@ -10,7 +10,9 @@ use Rattle.bson.specs.Framing.{pattern_options_under}
 use Rattle.laws.proofs.Common.{rest_part}
 use Rattle.part.specs.Said.{said_length}
 use Rattle.cstr.specs.Said.{limit_of}
+use native.Mathlib.Omega.{arith}
 use Rattle.laws.proofs.AnswerLaws.{answered}
+use Rattle.laws.proofs.CstringLaws.{cstring_inside}
 use Rattle.raw.proofs.pattern_options.Goals as goal
 
 module _ (limit : Limit) (v : List ℕ) (p : ℕ) (pattern : cstring_under limit v ≡ gives p) where
@@ -21,21 +23,25 @@ module _ (limit : Limit) (v : List ℕ) (p : ℕ) (pattern : cstring_under limit
   options (gives n) e = rw (pattern, ← ap (cstring_under limit) (rest_part v (p + 1)), e)
   options (refuses n k) e = rw (pattern, ← ap (cstring_under limit) (rest_part v (p + 1)), e)
 
--- what the first call answered where it gave a pattern
-told : (b : tie.After-pattern)
-    → let a = b.before.before.before.before.args in cstring_under (limit_of a.limit) a.v.now ≡ gives b.pattern.given.0.0
-told b = answered said_length b.before.before.read-cstring-with-max-len.ensures b.pattern.given.1
-
 pub returns-in-Refused : goal.returns-in-Refused
 unfolding pattern_options_under
 returns-in-Refused c = rw (answered said_length c.read_cstring_with_max_len.ensures c.in-Refused.is)
 
 pub returns-in-Refused-read_cstring_with_max_len : goal.returns-in-Refused-read_cstring_with_max_len
 returns-in-Refused-read_cstring_with_max_len c =
-    options _ _ _ (told c) _
+    options _ _ _ (answered said_length c.read_cstring_with_max_len.ensures c.in-Is.is) _
     (answered said_length c.read_cstring_with_max_len-in-Is.ensures c.in-Refused-read_cstring_with_max_len.is)
 
 pub returns-in-Is-read_cstring_with_max_len : goal.returns-in-Is-read_cstring_with_max_len
 returns-in-Is-read_cstring_with_max_len c =
-    options _ _ _ (told c) _
+    options _ _ _ (answered said_length c.read_cstring_with_max_len.ensures c.in-Is.is) _
     (answered said_length c.read_cstring_with_max_len-in-Is.ensures c.in-Is-read_cstring_with_max_len.is)
+
+pub overflow_add-o : goal.overflow_add-o
+overflow_add-o c = omega (arith, cstring_inside _ _ _ (answered said_length c.read_cstring_with_max_len.ensures c.in-Is.is))
+
+pub slice_bounds-read_cstring_with_max_len-count : goal.slice_bounds-read_cstring_with_max_len-count
+slice_bounds-read_cstring_with_max_len-count c = omega (arith, cstring_inside _ _ _ (answered said_length c.read_cstring_with_max_len.ensures c.in-Is.is))
+
+pub slice_bounds-read_cstring_with_max_len-start : goal.slice_bounds-read_cstring_with_max_len-start
+slice_bounds-read_cstring_with_max_len-start c = omega (arith, cstring_inside _ _ _ (answered said_length c.read_cstring_with_max_len.ensures c.in-Is.is))

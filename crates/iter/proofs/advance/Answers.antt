@@ -1,0 +1,18 @@
+-- `iter::advance` meets its contract: the element of the sizes, and the cursor behind it.
+use mathlib.Core.Path.{◌≡◌, refl}
+use mathlib.Core.Bool.{false}
+use native.Mathlib.Omega.{arith}
+use Rattle.bson.specs.Answer.{gives}
+use Rattle.bson.specs.Step.{cursor, yield, step_under}
+use Rattle.laws.proofs.AnswerLaws.{answered}
+use Rattle.laws.proofs.StepLaws.{step_yields}
+use Rattle.cstr.specs.Said.{limit_of}
+use Rattle.iter.specs.Said.{said_element, said_sizes}
+use Rattle.iter.proofs.Sized.{made_yields}
+use Rattle.iter.proofs.advance.Goals as goal
+
+pub overflow_add-next : goal.overflow_add-next
+overflow_add-next c = omega (arith, (step_yields _ _ _ _ (made_yields _ _ (omega arith) (answered (said_sizes _) c.sizes_at.ensures c.in-Yield.is) c.element_of-element.ensures)).inside)
+
+pub returns-in-Yield : goal.returns-in-Yield
+returns-in-Yield c = rw (made_yields _ _ (omega arith) (answered (said_sizes _) c.sizes_at.ensures c.in-Yield.is) c.element_of-element.ensures) (refl, refl)

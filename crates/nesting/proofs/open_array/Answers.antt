@@ -1,0 +1,8 @@
+-- `nesting::open_array` meets its contract: the tag and the mark of an array.
+use Rattle.bson.specs.Writer.{opened_in, answer, performed}
+use Rattle.nesting.specs.Opened.{opened_as}
+use Rattle.nesting.proofs.open_array.Goals as goal
+
+pub returns : goal.returns
+unfolding performed answer opened_in opened_as
+returns c = c.open_in.ensures
