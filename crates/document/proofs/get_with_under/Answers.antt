@@ -1,0 +1,14 @@
+-- `document::get_with_under` meets its contract: the element that is found, read, and the test of its tag.
+use Rattle.bson.specs.Lookup.{get_under, get_with_under}
+use Rattle.laws.proofs.AnswerLaws.{answered}
+use Rattle.document.specs.Said.{said_hit}
+use Rattle.document.proofs.get_with_under.Goals as goal
+
+pub returns-in-Refused : goal.returns-in-Refused
+unfolding get_under get_with_under
+returns-in-Refused c = rw (answered said_hit c.find.ensures c.in-Refused.is)
+
+pub returns-in-Is : goal.returns-in-Is
+unfolding get_under get_with_under
+returns-in-Is c =
+    rw (answered said_hit c.find.ensures c.in-Is.is) c.read_element_with.ensures
