@@ -32,4 +32,4 @@ loop-element-preserved c =
     let y = answered step.said c.next.ensures.0 c.in-Yield.is in
     let n = next_lands _ _ _ y (sym c.next.ensures.1 ∙ ap step.cursor_behind c.in-Yield.is) in
     let p = c.put_element-used in
-    (p.auto.0 ∙ l.invariant.0, rw (n, p.ensures) (sym (lines_onward _ _ _ _ y) ∙ l.invariant.1))
+    (p.auto.out ∙ l.invariant.0, rw (n, p.ensures) (sym (lines_onward _ _ _ _ y) ∙ l.invariant.1))
