@@ -80,11 +80,11 @@ module _ (limit : Limit) where
 
   rising_wider : (a b c d : ℕ) (l : List Spot) → a ≤ b → c ≤ d → Rising b l c → Rising a l d
   rising_wider a b c d [] i j r = omega arith
-  rising_wider a b c d (σ ∷ l) i j r = (omega arith, rising_wider _ _ c d l (le_refl _) j r.1)
+  rising_wider a b c d (σ ∷ l) i j r = (omega arith, rising_wider (suc (place_of σ)) (suc (place_of σ)) c d l (le_refl _) j r.1)
 
   rising_append : (a b c : ℕ) (l m : List Spot) → Rising a l b → Rising b m c → Rising a (l ++ m) c
   rising_append a b c [] m r q = rising_wider a b c c m r (le_refl c) q
-  rising_append a b c (σ ∷ l) m r q = (r.0, rising_append _ b c l m r.1 q)
+  rising_append a b c (σ ∷ l) m r q = (r.0, rising_append (suc (place_of σ)) b c l m r.1 q)
 
   listed_none : {P : Spot → Type 0} (low high : ℕ) → low ≤ high → ((τ : Spot) → P τ → Stands τ → ⊥) → Listed P low high 0
   listed_none low high i h =
@@ -207,7 +207,7 @@ module _ (limit : Limit) where
   rising_above low high (σ ∷ l) τ r m =
       ⊎_elim
       (λ e. subst (λ (ρ : Spot). low ≤ place_of ρ) (sym e) r.0)
-      (λ t. omega (arith, r.0, rising_above _ high l τ r.1 t))
+      (λ t. omega (arith, r.0, rising_above (suc (place_of σ)) high l τ r.1 t))
       (Memᴰ.cases_cons m)
 
   abbrev Subset : List Spot → List Spot → Type 0
@@ -229,10 +229,10 @@ module _ (limit : Limit) where
       ⊎_elim
       (λ e.
       let g = subset_rest τ l m b (subst (λ (ρ : Spot). Rising (suc (place_of ρ)) l b) e r.1) (λ ρ t. h ρ (Memᴰ.tail t)) in
-      omega (arith, rising_shorter _ b _ d l m r.1 q.1 g))
+      omega (arith, rising_shorter (suc (place_of σ)) b (suc (place_of τ)) d l m r.1 q.1 g))
       (λ t.
       let g = subset_rest τ (σ ∷ l) m b (rising_above _ d m σ q.1 t, r.1) h in
-      omega (arith, rising_shorter a b _ d (σ ∷ l) m r q.1 g))
+      omega (arith, rising_shorter a b (suc (place_of τ)) d (σ ∷ l) m r q.1 g))
       (Memᴰ.cases_cons (h σ (Memᴰ.head refl)))
 
   -- And there is only one such number.
