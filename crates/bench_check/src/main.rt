@@ -1,8 +1,10 @@
 // Checks one document from standard input many times, by RULES.md, "The whole check"; bench/linear times it from outside.
 #![tactic(auto)]
 
-use libc::{STDIN_FILENO, STDOUT_FILENO};
-use std::num::wrapping_add_usize;
+ghost use Rattle.std.specs.Prelude.{◌≤◌, IfOk, length};
+
+use std::io;
+use std::io::Read;
 use whole::Verdict;
 
 const TURNS: u64 = 2000;
@@ -24,26 +26,33 @@ fn values_of(document: &[u8], before: usize) -> usize {
 
 // The sum of the counts of all turns.
 fn check_often(document: &[u8]) -> usize {
-    let mut sum = 0;
+    let mut sum = 0usize;
     let mut values = 0;
-    let mut turns = TURNS;
-    while 0 < turns {
+    for _ in 0..TURNS {
         values = values_of(document, values);
-        sum = wrapping_add_usize(sum, values);
-        turns -= 1;
+        sum = sum.wrapping_add(values);
     }
     sum
 }
 
-fn say(n: u64, unit: &[u8]) {
-    io::print_decimal(STDOUT_FILENO, n);
-    io::write_all(STDOUT_FILENO, unit);
+// Reads until the input ends or the buffer is full; how many bytes there are then.
+fn read_full(input: &mut impl Read, space: &mut [u8]) -> io::Result<usize>
+    ensures { IfOk result (λ n. n ≤ length space.old) }
+{
+    let mut n = 0;
+    while n < space.len() {
+        let got = input.read(&mut space[n..])?;
+        if got == 0 {
+            break;
+        }
+        n += got;
+    }
+    Ok(n)
 }
 
-fn main() {
-    let mut space = io::large_buffer();
-    let n = io::read_full(STDIN_FILENO, &mut space);
+fn main(rt: HostRuntime) -> io::Result<()> {
+    let mut space = [0; 65536];
+    let n = read_full(&mut rt.reader(), &mut space)?;
     let sum = check_often(&space[..n]);
-    say(TURNS, b" turns, ");
-    say(sum as u64, b" values\n");
+    println!(rt; "{TURNS} turns, {sum} values")
 }

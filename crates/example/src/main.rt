@@ -1,45 +1,42 @@
 // Checks a frame, says whether its battery is low, and joins the receiver's field behind it.
 #![tactic(auto)]
 
+ghost use Rattle.std.specs.Prelude.{◌≤◌, IfOk, length};
+
 use doc_writer::scalars;
 use join::Joined;
-use libc::{STDIN_FILENO, STDOUT_FILENO};
 use part::Part;
+use std::io;
+use std::io::Read;
 use typed::I32;
 use whole::Verdict;
 
-fn say(words: &[u8], n: usize) {
-    io::write_all(STDOUT_FILENO, words);
-    io::print_decimal(STDOUT_FILENO, n as u64);
-    io::write_all(STDOUT_FILENO, b"\n");
-}
-
-fn passes(frame: &[u8]) -> bool {
+fn passes(rt: &impl Print, frame: &[u8]) -> io::Result<bool> {
     match whole::check(frame) {
         Verdict::Accepted(values) => {
-            say(b"accepted, values: ", values);
-            true
+            println!(rt; "accepted, values: {values}")?;
+            Ok(true)
         }
         Verdict::Refused { number, .. } => {
-            say(b"refused by ", number as usize);
-            false
+            println!(rt; "refused by {number}")?;
+            Ok(false)
         }
     }
 }
 
 // Of a frame that passed the number is 16, absent, or 17, of another type.
-fn look_up(frame: &[u8]) {
+fn look_up(rt: &impl Print, frame: &[u8]) -> io::Result<()> {
     match typed::get_i32(frame, b"battery") {
         I32::Is(millivolts) => {
-            let low = millivolts < 6600;
-            say(b"battery low: ", low as usize);
+            let low = u8::from(millivolts < 6600);
+            println!(rt; "battery low: {low}")
         }
-        I32::Refused { number, .. } => say(b"no battery: ", number as usize),
+        I32::Refused { number, .. } => println!(rt; "no battery: {number}"),
     }
 }
 
 // { "rssi": -97 } behind the frame's elements. A refused call of the writer changes nothing.
-fn add_field(out: &mut [u8], frame: &[u8]) {
+fn add_field(rt: &impl Print, out: &mut [u8], frame: &[u8]) -> io::Result<()> {
     let mut field = [0; 64];
     let w = doc_writer::open(&mut field, doc_writer::new()).writer;
     let w = scalars::append_int32(&mut field, w, b"rssi", -97).writer;
@@ -47,23 +44,38 @@ fn add_field(out: &mut [u8], frame: &[u8]) {
     let size = w.words[0] as usize;
     let written = part::bytes_of(&field, Part { offset: 0, size });
     match join::join(out, frame, written) {
-        Joined::Wrote(length) => say(b"joined, bytes: ", length),
-        Joined::Refused { number, .. } => say(b"not joined: ", number as usize),
+        Joined::Wrote(length) => println!(rt; "joined, bytes: {length}"),
+        Joined::Refused { number, .. } => println!(rt; "not joined: {number}"),
     }
 }
 
-fn main() {
-    let mut space = io::large_buffer();
-    let n = io::read_full(STDIN_FILENO, &mut space);
+// Reads until the input ends or the buffer is full; how many bytes there are then.
+fn read_full(input: &mut impl Read, space: &mut [u8]) -> io::Result<usize>
+    ensures { IfOk result (λ n. n ≤ length space.old) }
+{
+    let mut n = 0;
+    while n < space.len() {
+        let got = input.read(&mut space[n..])?;
+        if got == 0 {
+            break;
+        }
+        n += got;
+    }
+    Ok(n)
+}
+
+fn main(rt: HostRuntime) -> io::Result<()> {
+    let mut space = [0; 65536];
+    let n = read_full(&mut rt.reader(), &mut space)?;
     // a full buffer may hold the front of something longer
     if n == 65536 {
-        say(b"too long, bytes: ", n);
-        return;
+        return println!(rt; "too long, bytes: {n}");
     }
     let frame = &space[..n];
-    if passes(frame) {
-        look_up(frame);
+    if passes(&rt, frame)? {
+        look_up(&rt, frame)?;
         let mut out = [0; 65600];
-        add_field(&mut out, frame);
+        add_field(&rt, &mut out, frame)?;
     }
+    Ok(())
 }

@@ -76,15 +76,16 @@ fn without_star(part: &[u8]) -> &[u8] {
     part
 }
 
-fn say_differs(part: &[u8], head: &[u8]) {
-    say(b"differs: ");
-    say(part);
-    say(b" of ");
-    say(head);
-    say(b"\n");
+fn say_differs(rt: &impl Print, part: &[u8], head: &[u8]) {
+    say(rt, b"differs: ");
+    say(rt, part);
+    say(rt, b" of ");
+    say(rt, head);
+    say(rt, b"\n");
 }
 
 fn replay_part(
+    rt: &impl Print,
     part: &[u8],
     document: &[u8],
     limit: usize,
@@ -93,13 +94,14 @@ fn replay_part(
 ) -> Progress {
     let after = answer_part(without_star(part), document, limit, progress);
     if progress.differ < after.differ {
-        say_differs(part, head);
+        say_differs(rt, part, head);
     }
     after
 }
 
 // The parts behind the head, each with its separator in front.
 fn replay_parts(
+    rt: &impl Print,
     parts: &[u8],
     document: &[u8],
     limit: usize,
@@ -111,6 +113,7 @@ fn replay_parts(
     while i < parts.len() {
         let end = find(parts, i + 1, b';');
         progress = replay_part(
+            rt,
             behind_separator(&parts[i..end]),
             document,
             limit,
@@ -135,6 +138,7 @@ pub fn parts_of(line: &[u8]) -> &[u8] {
 
 // The parts are replayed where the document is all that the hexadecimal names; else the head differs.
 fn replay_unhexed(
+    rt: &impl Print,
     line: &[u8],
     hex: &[u8],
     document: &[u8],
@@ -144,22 +148,29 @@ fn replay_unhexed(
     let head = head_of(line);
     let begun = progress.with_document(first_step(document));
     if is_unhexed(hex, document) {
-        return replay_parts(parts_of(line), document, limit, head, begun);
+        return replay_parts(rt, parts_of(line), document, limit, head, begun);
     }
-    say_differs(b"hexadecimal", head);
+    say_differs(rt, b"hexadecimal", head);
     begun.with_answer(false)
 }
 
 // It does little itself: what stands beside so large an array is slow to prove.
-fn replay_document(line: &[u8], hex: &[u8], limit: usize, progress: Progress) -> Progress {
+fn replay_document(
+    rt: &impl Print,
+    line: &[u8],
+    hex: &[u8],
+    limit: usize,
+    progress: Progress,
+) -> Progress {
     let mut bytes = [0u8; 4096];
     let n = unhex(hex, &mut bytes);
-    replay_unhexed(line, hex, &bytes[..n], limit, progress)
+    replay_unhexed(rt, line, hex, &bytes[..n], limit, progress)
 }
 
 // A line `document HEX; ..`.
-pub fn replay_plain(line: &[u8], progress: Progress) -> Progress {
+pub fn replay_plain(rt: &impl Print, line: &[u8], progress: Progress) -> Progress {
     replay_document(
+        rt,
         line,
         fields_from(head_of(line), 1),
         cstr::NO_LIMIT,
@@ -168,8 +179,9 @@ pub fn replay_plain(line: &[u8], progress: Progress) -> Progress {
 }
 
 // A line `limited LIMIT document HEX; ..`.
-pub fn replay_limited(line: &[u8], progress: Progress) -> Progress {
+pub fn replay_limited(rt: &impl Print, line: &[u8], progress: Progress) -> Progress {
     replay_document(
+        rt,
         line,
         fields_from(head_of(line), 3),
         limit_of(field(line, 1)),

@@ -16,25 +16,26 @@ mod text;
 mod values;
 mod writing;
 
-ghost use Rattle.std.specs.Prelude.{◌≤◌, length};
+ghost use Rattle.std.specs.Prelude.{◌≤◌, IfOk, length};
 
 use documents::{replay_limited, replay_plain};
-use libc::STDIN_FILENO;
 use progress::Progress;
 use questions::replay_question;
+use std::io;
+use std::io::Read;
 use text::{behind, find, say, word_number};
 use writing::replay_session;
 
-fn replay_line(line: &[u8], progress: Progress) -> Progress {
+fn replay_line(rt: &impl Print, line: &[u8], progress: Progress) -> Progress {
     match word_number(b"document limited write", line) {
-        1 => replay_plain(line, progress),
-        2 => replay_limited(line, progress),
+        1 => replay_plain(rt, line, progress),
+        2 => replay_limited(rt, line, progress),
         3 => {
-            replay_session(line);
+            replay_session(rt, line);
             progress
         }
         _ => {
-            replay_question(line);
+            replay_question(rt, line);
             progress
         }
     }
@@ -48,7 +49,7 @@ struct Lines {
 }
 
 // Replays the whole lines, and the last one without its newline where the input has ended.
-fn replay_lines(list: &[u8], ended: bool, progress: Progress) -> Lines
+fn replay_lines(rt: &impl Print, list: &[u8], ended: bool, progress: Progress) -> Lines
     ensures { result.rest ≤ length list.now }
 {
     let mut progress = progress;
@@ -58,7 +59,7 @@ fn replay_lines(list: &[u8], ended: bool, progress: Progress) -> Lines
         if (end == list.len()) & !ended {
             break;
         }
-        progress = replay_line(&list[rest..end], progress);
+        progress = replay_line(rt, &list[rest..end], progress);
         rest = behind(list, end);
     }
     Lines { rest, progress }
@@ -67,20 +68,25 @@ fn replay_lines(list: &[u8], ended: bool, progress: Progress) -> Lines
 fn move_to_front(space: &mut [u8], from: usize)
     requires { from ≤ length space.old }
 {
-    let n = space.len() - from;
-    let mut i = 0;
-    while i < n {
+    for i in 0..space.len() - from {
         space[i] = space[from + i];
-        i += 1;
     }
 }
 
-// Reads behind what is held; how many bytes there are then.
-fn fill(space: &mut [u8], held: usize) -> usize
+// Reads behind what is held, until the input ends or the buffer is full; how many bytes there are then.
+fn fill(input: &mut impl Read, space: &mut [u8], held: usize) -> io::Result<usize>
     requires { held ≤ length space.old }
-    ensures { result ≤ length space.old }
+    ensures { IfOk result (λ n. n ≤ length space.old) }
 {
-    held + io::read_full(STDIN_FILENO, &mut space[held..])
+    let mut n = held;
+    while n < space.len() {
+        let got = input.read(&mut space[n..])?;
+        if got == 0 {
+            break;
+        }
+        n += got;
+    }
+    Ok(n)
 }
 
 // How many bytes in front of the buffer are an unfinished line.
@@ -91,45 +97,52 @@ struct Block {
     progress: Progress,
 }
 
-fn replay_block(space: &mut [u8], held: usize, progress: Progress) -> Block
+fn replay_block<R: Input + Print>(
+    rt: &R,
+    space: &mut [u8],
+    held: usize,
+    progress: Progress,
+) -> io::Result<Block>
     requires { held ≤ length space.old }
-    ensures { result.held ≤ length space.old }
+    ensures { IfOk result (λ block. block.held ≤ length space.old) }
 {
-    let filled = fill(space, held);
+    let filled = fill(&mut rt.reader(), space, held)?;
     let ended = filled < space.len();
-    let lines = replay_lines(&space[0..filled], ended, progress);
+    let lines = replay_lines(rt, &space[0..filled], ended, progress);
     let rest = lines.rest;
     let progress = lines.progress;
     let held = filled - rest;
     move_to_front(space, rest);
-    Block {
+    Ok(Block {
         held,
         ended,
         progress,
-    }
+    })
 }
 
 // A block that has not ended is one that a single line fills.
-fn say_end(last: Block) {
+fn say_end(rt: &impl Print, last: Block) {
     if last.ended {
-        last.progress.say();
+        last.progress.say(rt);
     } else {
-        say(b"line too long\n");
+        say(rt, b"line too long\n");
     }
 }
 
-fn main() {
-    let mut space = io::large_buffer();
+fn main(rt: HostRuntime) -> io::Result<()> {
+    let mut space = [0; 65536];
     let mut block = Block {
         held: 0,
         ended: false,
         progress: Progress::new(),
     };
     // no input has so many blocks
-    let mut turns = u64::MAX;
-    while 0 < turns && !block.ended && block.held < 65536 {
-        block = replay_block(&mut space, block.held, block.progress);
-        turns -= 1;
+    for _ in 0..u64::MAX {
+        if block.ended || 65536 <= block.held {
+            break;
+        }
+        block = replay_block(&rt, &mut space, block.held, block.progress)?;
     }
-    say_end(block);
+    say_end(&rt, block);
+    Ok(())
 }

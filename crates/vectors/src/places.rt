@@ -6,90 +6,90 @@ use part::Part;
 use reading::{Reading, parts};
 use whole::Verdict;
 
-fn say_refusal(number: u8, place: usize) {
-    say(b"refuses ");
-    say_number(number as u64);
-    say(b" at ");
-    say_number(place as u64);
+fn say_refusal(rt: &impl Print, number: u8, place: usize) {
+    say(rt, b"refuses ");
+    say_number(rt, number as u64);
+    say(rt, b" at ");
+    say_number(rt, place as u64);
 }
 
-fn say_part(part: Part) {
-    say(b" ");
-    say_number(part.offset as u64);
-    say(b" ");
-    say_number(part.size as u64);
+fn say_part(rt: &impl Print, part: Part) {
+    say(rt, b" ");
+    say_number(rt, part.offset as u64);
+    say(rt, b" ");
+    say_number(rt, part.size as u64);
 }
 
-fn say_element(element: Element) {
+fn say_element(rt: &impl Print, element: Element) {
     let key = element.key;
     let value = element.value;
-    say(b"yields ");
-    say_number(element.place as u64);
-    say(b" tag ");
-    say_byte(element.tag);
-    say(b" key");
-    say_part(key);
-    say(b" value");
-    say_part(value);
+    say(rt, b"yields ");
+    say_number(rt, element.place as u64);
+    say(rt, b" tag ");
+    say_byte(rt, element.tag);
+    say(rt, b" key");
+    say_part(rt, key);
+    say(rt, b" value");
+    say_part(rt, value);
 }
 
-fn say_cursor(next: Cursor) {
-    say(b", next ");
-    say_number(next.offset as u64);
+fn say_cursor(rt: &impl Print, next: Cursor) {
+    say(rt, b", next ");
+    say_number(rt, next.offset as u64);
     if next.ended {
-        say(b" ended");
+        say(rt, b" ended");
     } else {
-        say(b" open");
+        say(rt, b" open");
     }
 }
 
-fn say_step(step: Step) {
+fn say_step(rt: &impl Print, step: Step) {
     match step {
         Step::Yield { element, next } => {
-            say_element(element);
-            say_cursor(next);
+            say_element(rt, element);
+            say_cursor(rt, next);
         }
         Step::End { next } => {
-            say(b"ends");
-            say_cursor(next);
+            say(rt, b"ends");
+            say_cursor(rt, next);
         }
         Step::Refused {
             number,
             place,
             next,
         } => {
-            say_refusal(number, place);
-            say_cursor(next);
+            say_refusal(rt, number, place);
+            say_cursor(rt, next);
         }
     }
 }
 
-fn say_bytes(bytes: &[u8]) {
+fn say_bytes(rt: &impl Print, bytes: &[u8]) {
     if bytes.len() == 0 {
-        say(b"is empty");
+        say(rt, b"is empty");
         return;
     }
-    say(b"gives ");
-    say_hex(bytes);
+    say(rt, b"gives ");
+    say_hex(rt, bytes);
 }
 
-fn say_reading(reading: Reading) {
+fn say_reading(rt: &impl Print, reading: Reading) {
     match reading {
-        Reading::Refused { number, place } => say_refusal(number, place),
+        Reading::Refused { number, place } => say_refusal(rt, number, place),
         Reading::Is(value) => {
-            say(b"gives ");
-            say_value(value);
+            say(rt, b"gives ");
+            say_value(rt, value);
         }
     }
 }
 
-fn say_verdict(verdict: Verdict) {
+fn say_verdict(rt: &impl Print, verdict: Verdict) {
     match verdict {
         Verdict::Accepted(n) => {
-            say(b"accepts ");
-            say_number(n as u64);
+            say(rt, b"accepts ");
+            say_number(rt, n as u64);
         }
-        Verdict::Refused { number, place } => say_refusal(number, place),
+        Verdict::Refused { number, place } => say_refusal(rt, number, place),
     }
 }
 
@@ -110,37 +110,37 @@ fn part_named<'a>(name: usize, document: &'a [u8], place: usize) -> &'a [u8] {
 }
 
 // `step BYTES OFFSET open`, or `ended`.
-pub fn ask_step(line: &[u8], document: &[u8]) {
+pub fn ask_step(rt: &impl Print, line: &[u8], document: &[u8]) {
     let cursor = Cursor {
         offset: number_of(field(line, 2)),
         ended: cstr::equal(field(line, 3), b"ended"),
     };
-    say_step(iter::next(document, cursor));
+    say_step(rt, iter::next(document, cursor));
 }
 
 // `read BYTES PLACE`.
-pub fn ask_value(line: &[u8], document: &[u8]) {
-    say_reading(reading::read_at(document, number_of(field(line, 2))));
+pub fn ask_value(rt: &impl Print, line: &[u8], document: &[u8]) {
+    say_reading(rt, reading::read_at(document, number_of(field(line, 2))));
 }
 
 // `check BYTES`, and `strict BYTES`.
-pub fn ask_check(strict: bool, document: &[u8]) {
+pub fn ask_check(rt: &impl Print, strict: bool, document: &[u8]) {
     if strict {
-        say_verdict(whole::check_strict(document));
+        say_verdict(rt, whole::check_strict(document));
     } else {
-        say_verdict(whole::check(document));
+        say_verdict(rt, whole::check(document));
     }
 }
 
 // `part BYTES PLACE NAME`.
-pub fn ask_part(line: &[u8], document: &[u8]) {
+pub fn ask_part(rt: &impl Print, line: &[u8], document: &[u8]) {
     let name = word_number(
         b"string code symbol document array binary pattern options namespace scope_code scope",
         field(line, 3),
     );
     if name == 0 {
-        say(b"is no question");
+        say(rt, b"is no question");
         return;
     }
-    say_bytes(part_named(name, document, number_of(field(line, 2))));
+    say_bytes(rt, part_named(name, document, number_of(field(line, 2))));
 }

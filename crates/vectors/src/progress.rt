@@ -51,15 +51,15 @@ impl Progress {
     }
 
     // Says the totals where there was a document.
-    pub fn say(self) {
+    pub fn say(self, rt: &impl Print) {
         if self.documents == 0 {
             return;
         }
-        say_number(self.documents);
-        say(b" documents, ");
-        say_number(self.alike);
-        say(b" answers alike, ");
-        say_number(self.differ);
-        say(b" differ\n");
+        say_number(rt, self.documents);
+        say(rt, b" documents, ");
+        say_number(rt, self.alike);
+        say(rt, b" answers alike, ");
+        say_number(rt, self.differ);
+        say(rt, b" differ\n");
     }
 }

@@ -6,36 +6,36 @@ use crate::text::{
     distance, field, fields_from, limit_of, say, say_number, say_signed, unhex, word_number,
 };
 
-fn say_yes(b: bool) {
+fn say_yes(rt: &impl Print, b: bool) {
     if b {
-        say(b"yes");
+        say(rt, b"yes");
     } else {
-        say(b"no");
+        say(rt, b"no");
     }
 }
 
-fn say_reading(r: Reading) {
+fn say_reading(rt: &impl Print, r: Reading) {
     match r {
-        Reading::Flag(b) => say_yes(b),
+        Reading::Flag(b) => say_yes(rt, b),
         Reading::Number(n) => {
-            say(b"gives ");
-            say_number(n);
+            say(rt, b"gives ");
+            say_number(rt, n);
         }
         Reading::Signed(x) => {
-            say(b"gives ");
-            say_signed(x < 0, distance(x));
+            say(rt, b"gives ");
+            say_signed(rt, x < 0, distance(x));
         }
         Reading::Pair(a, b) => {
-            say(b"gives ");
-            say_number(a);
-            say(b" ");
-            say_number(b);
+            say(rt, b"gives ");
+            say_number(rt, a);
+            say(rt, b" ");
+            say_number(rt, b);
         }
         Reading::Refused(number) => {
-            say(b"refuses ");
-            say_number(number as u64);
+            say(rt, b"refuses ");
+            say_number(rt, number as u64);
         }
-        Reading::Nothing => say(b"is no question"),
+        Reading::Nothing => say(rt, b"is no question"),
     }
 }
 
@@ -70,25 +70,25 @@ fn ask(line: &[u8], first: &[u8], second: &[u8]) -> Reading {
     }
 }
 
-fn say_answer(line: &[u8], first: &[u8], second: &[u8]) {
-    say(line);
-    say(b" ");
+fn say_answer(rt: &impl Print, line: &[u8], first: &[u8], second: &[u8]) {
+    say(rt, line);
+    say(rt, b" ");
     match word_number(b"step read part check strict", line) {
-        1 => ask_step(line, first),
-        2 => ask_value(line, first),
-        3 => ask_part(line, first),
-        4 => ask_check(false, first),
-        5 => ask_check(true, first),
-        _ => say_reading(ask(line, first, second)),
+        1 => ask_step(rt, line, first),
+        2 => ask_value(rt, line, first),
+        3 => ask_part(rt, line, first),
+        4 => ask_check(rt, false, first),
+        5 => ask_check(rt, true, first),
+        _ => say_reading(rt, ask(line, first, second)),
     }
-    say(b"\n");
+    say(rt, b"\n");
 }
 
 // It does little itself: what stands beside so large an array is slow to prove.
-pub fn replay_question(line: &[u8]) {
+pub fn replay_question(rt: &impl Print, line: &[u8]) {
     let mut first = [0u8; 4096];
     let mut second = [0u8; 4096];
     let n = unhex(field(line, 1), &mut first);
     let m = unhex(fields_from(line, 2), &mut second);
-    say_answer(line, &first[..n], &second[..m]);
+    say_answer(rt, line, &first[..n], &second[..m]);
 }

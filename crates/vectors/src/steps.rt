@@ -6,7 +6,6 @@ use document::Admission;
 use iter::{Cursor, Element, Step};
 use part::Part;
 use reading::{Reading, Which};
-use std::num::wrapping_add_usize;
 
 // Where the first step begins: there is none where the document is not admitted.
 pub fn first_step(document: &[u8]) -> Cursor {
@@ -29,11 +28,11 @@ pub fn first_step(document: &[u8]) -> Cursor {
 fn is_laid(element: Element, next: Cursor) -> bool {
     let key = element.key;
     let value = element.value;
-    let key_end = wrapping_add_usize(key.offset, key.size);
+    let key_end = key.offset.wrapping_add(key.size);
     !next.ended
-        & (key.offset == wrapping_add_usize(element.place, 1))
-        & (value.offset == wrapping_add_usize(key_end, 1))
-        & (next.offset == wrapping_add_usize(value.offset, value.size))
+        & (key.offset == element.place.wrapping_add(1))
+        & (value.offset == key_end.wrapping_add(1))
+        & (next.offset == value.offset.wrapping_add(value.size))
 }
 
 // `at OFFSET TAG KEYSIZE SIZE`, and the key that the step's twin hands back.

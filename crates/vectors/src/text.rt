@@ -1,58 +1,63 @@
 // The bytes of a line: its fields, the numbers and the hexadecimal that stand in them.
-ghost use Rattle.std.specs.Prelude.{◌≡◌, ◌+◌, ◌<◌, ◌≤◌, min, length};
-ghost use Rattle.io.specs.Counts.{IsPrefixLen};
+ghost use Rattle.std.specs.Prelude.{◌≡◌, ◌+◌, ◌<◌, ◌≤◌, min, length, take};
 
-use libc::STDOUT_FILENO;
-use std::num::wrapping_add_usize;
-
-pub fn say(text: &[u8]) {
-    io::write_all(STDOUT_FILENO, text);
+// A write that fails is not reported: the totals in the last line say how far the replay came.
+pub fn say(rt: &impl Print, text: &[u8]) {
+    let _ = rt.write_all(text);
 }
 
-pub fn say_number(n: u64) {
-    io::print_decimal(STDOUT_FILENO, n);
+pub fn say_number(rt: &impl Print, n: u64) {
+    let _ = rt.print(n);
 }
 
 // A number by its sign and its distance from 0.
-pub fn say_signed(below: bool, n: u64) {
+pub fn say_signed(rt: &impl Print, below: bool, n: u64) {
     if below {
-        say(b"-");
+        say(rt, b"-");
     }
-    say_number(n);
+    say_number(rt, n);
+}
+
+// The hexadecimal digit of a number below 16.
+fn hex_digit(n: u8) -> u8
+    requires { n < 16 }
+{
+    if n < 10 { b'0' + n } else { b'a' + (n - 10) }
 }
 
 // In two hexadecimal digits.
-pub fn say_byte(b: u8) {
-    io::print_hex(STDOUT_FILENO, b as u64, 2);
+pub fn say_byte(rt: &impl Print, b: u8) {
+    say(rt, &[hex_digit(b / 16), hex_digit(b % 16)]);
 }
 
-pub fn say_hex(bytes: &[u8]) {
-    let mut i = 0;
-    while i < bytes.len() {
-        say_byte(bytes[i]);
-        i += 1;
+pub fn say_hex(rt: &impl Print, bytes: &[u8]) {
+    for b in bytes {
+        say_byte(rt, *b);
     }
 }
 
 // How far a number is from 0.
 pub fn distance(x: i64) -> u64 {
-    if x < 0 {
-        // -1 - x and not -x, which the least number does not have
-        ((-1 - x) as u64) + 1
-    } else {
-        x as u64
-    }
+    x.unsigned_abs()
 }
 
 pub fn wide(x: i32) -> i64 {
-    x as i64
+    i64::from(x)
 }
 
-// Whether a field is this number in decimal.
+// Whether a field is this number in decimal: its digits from the last on, and none in front of the first.
 fn is_number(field: &[u8], n: u64) -> bool {
-    let mut digits = [0u8; 20];
-    let k = io::decimal(n, &mut digits);
-    cstr::equal(field, &digits[..k])
+    let mut rest = n;
+    for (i, b) in field.iter().rev().enumerate() {
+        if *b != b'0' + (rest % 10) as u8 {
+            return false;
+        }
+        rest /= 10;
+        if rest == 0 {
+            return i + 1 == field.len();
+        }
+    }
+    false
 }
 
 // The same of field k of a text.
@@ -73,9 +78,7 @@ pub fn is_signed(field: &[u8], below: bool, n: u64) -> bool {
 
 // Whether a field is this byte in two hexadecimal digits.
 pub fn is_byte(field: &[u8], b: u8) -> bool {
-    let mut digits = [0u8; 16];
-    let k = io::hex(b as u64, 2, &mut digits);
-    cstr::equal(field, &digits[..k])
+    cstr::equal(field, &[hex_digit(b / 16), hex_digit(b % 16)])
 }
 
 // The value of a hexadecimal digit; 0 for any other byte.
@@ -106,7 +109,8 @@ fn pair(digits: &[u8], n: usize) -> u8
 
 // The bytes that pairs of digits name, as many as there is room for, and how many they are.
 pub fn unhex(digits: &[u8], out: &mut [u8]) -> usize
-    ensures { IsPrefixLen result out.new }
+    ensures within { result ≤ length out.new }
+    ensures front { result ≡ length (take result out.new) }
 {
     let mut n = 0;
     while n < out.len() {
@@ -129,12 +133,10 @@ pub fn byte_of(digits: &[u8]) -> u8 {
 
 // Whether all are hexadecimal digits.
 fn is_hex(digits: &[u8]) -> bool {
-    let mut i = 0;
-    while i < digits.len() {
-        if (digit(digits[i]) == 0) & (digits[i] != b'0') {
+    for b in digits {
+        if (digit(*b) == 0) & (*b != b'0') {
             return false;
         }
-        i += 1;
     }
     true
 }
@@ -147,7 +149,7 @@ pub fn is_unhexed(hex: &[u8], bytes: &[u8]) -> bool {
 // A number with one more decimal digit behind it; one that is too large stays as it is.
 fn with_digit(n: usize, b: u8) -> usize {
     if n <= 1844674407370955161 {
-        return wrapping_add_usize(10 * n, digit(b) as usize);
+        return (10 * n).wrapping_add(digit(b) as usize);
     }
     n
 }
@@ -155,10 +157,8 @@ fn with_digit(n: usize, b: u8) -> usize {
 // The number that decimal digits name.
 pub fn number_of(digits: &[u8]) -> usize {
     let mut n = 0;
-    let mut i = 0;
-    while i < digits.len() {
-        n = with_digit(n, digits[i]);
-        i += 1;
+    for b in digits {
+        n = with_digit(n, *b);
     }
     n
 }
@@ -171,16 +171,16 @@ pub fn limit_of(digits: &[u8]) -> usize {
 // The offset of a byte from an offset on, or the end.
 pub fn find(line: &[u8], from: usize, b: u8) -> usize
     requires { from ≤ length line.now }
-    ensures { (from ≤ result) × IsPrefixLen result line.now }
+    ensures behind { from ≤ result }
+    ensures within { result ≤ length line.now }
+    ensures front { result ≡ length (take result line.now) }
 {
-    let mut i = from;
-    while i < line.len() {
+    for i in from..line.len() {
         if line[i] == b {
             return i;
         }
-        i += 1;
     }
-    i
+    line.len()
 }
 
 // The offset behind a space or a newline, or the end.
@@ -208,10 +208,8 @@ pub fn field_count(text: &[u8]) -> usize {
 // The text from field k on; empty where there are fewer.
 pub fn fields_from(text: &[u8], k: usize) -> &[u8] {
     let mut from = 0;
-    let mut i = 0;
-    while i < k {
+    for _ in 0..k {
         from = behind(text, find(text, from, b' '));
-        i += 1;
     }
     &text[from..]
 }
@@ -226,13 +224,10 @@ pub fn field(text: &[u8], k: usize) -> &[u8] {
 // Which of the words is the first field of a text, counted from 1; 0 where none is.
 pub fn word_number(words: &[u8], text: &[u8]) -> usize {
     let word = field(text, 0);
-    let count = field_count(words);
-    let mut i = 0;
-    while i < count {
+    for i in 0..field_count(words) {
         if cstr::equal(field(words, i), word) {
             return i + 1;
         }
-        i += 1;
     }
     0
 }

@@ -130,22 +130,22 @@ pub fn is_refusal(said: &[u8], place: usize, number: u8) -> bool {
         & is_field(said, 3, number as u64)
 }
 
-fn say_field(is_there: bool, n: u64) {
+fn say_field(rt: &impl Print, is_there: bool, n: u64) {
     if is_there {
-        say(b" ");
-        say_number(n);
+        say(rt, b" ");
+        say_number(rt, n);
     }
 }
 
-pub fn say_value(value: Value) {
+pub fn say_value(rt: &impl Print, value: Value) {
     let words = words_of(value);
     let fields = words.fields;
-    say(field(&NAMES, words.name));
+    say(rt, field(&NAMES, words.name));
     if 1 < fields {
-        say(b" ");
-        say_signed(words.below, words.first);
+        say(rt, b" ");
+        say_signed(rt, words.below, words.first);
     }
-    say_field(2 < fields, words.second);
-    say_field(3 < fields, words.third);
-    say_field(4 < fields, words.fourth);
+    say_field(rt, 2 < fields, words.second);
+    say_field(rt, 3 < fields, words.third);
+    say_field(rt, 4 < fields, words.fourth);
 }

@@ -179,58 +179,58 @@ fn replay_bytes(call: &[u8], out: &mut [u8], w: DocWriter) -> Written {
     perform(call, out, w, &key[..k], &first[..n], &second[..m])
 }
 
-fn replay_call(call: &[u8], out: &mut [u8], w: DocWriter) -> DocWriter {
+fn replay_call(rt: &impl Print, call: &[u8], out: &mut [u8], w: DocWriter) -> DocWriter {
     if word_number(b"word", call) == 1 {
         return with_word(w, number_of(field(call, 1)), word_of(field(call, 2)));
     }
     let r = replay_bytes(call, out, w);
-    say(b" ");
-    say_number(r.number as u64);
+    say(rt, b" ");
+    say_number(rt, r.number as u64);
     r.writer
 }
 
 // The calls, each with its separator in front.
-fn replay_calls(calls: &[u8], out: &mut [u8]) -> DocWriter {
+fn replay_calls(rt: &impl Print, calls: &[u8], out: &mut [u8]) -> DocWriter {
     let mut w = doc_writer::new();
     let mut i = 0;
     while i < calls.len() {
         let end = find(calls, i + 1, b';');
-        w = replay_call(behind_separator(&calls[i..end]), out, w);
+        w = replay_call(rt, behind_separator(&calls[i..end]), out, w);
         i = end;
     }
     w
 }
 
 // What the session leaves: the used bytes, the buffer, and the whole check of a top that is closed.
-fn say_left(out: &[u8], w: DocWriter) {
+fn say_left(rt: &impl Print, out: &[u8], w: DocWriter) {
     let words = w.words;
     let used = words[0] as usize;
-    say(b", used ");
-    say_number(used as u64);
-    say(b" of ");
-    say_hex(out);
+    say(rt, b", used ");
+    say_number(rt, used as u64);
+    say(rt, b" of ");
+    say_hex(rt, out);
     if (words[1] == 0) & (0 < used) {
         if used <= out.len() {
-            say(b", ");
-            ask_check(false, &out[0..used]);
+            say(rt, b", ");
+            ask_check(rt, false, &out[0..used]);
         }
     }
-    say(b"\n");
+    say(rt, b"\n");
 }
 
-fn replay_in(line: &[u8], out: &mut [u8]) {
-    say(line);
-    say(b" gives");
-    let w = replay_calls(parts_of(line), out);
-    say_left(out, w);
+fn replay_in(rt: &impl Print, line: &[u8], out: &mut [u8]) {
+    say(rt, line);
+    say(rt, b" gives");
+    let w = replay_calls(rt, parts_of(line), out);
+    say_left(rt, out, w);
 }
 
-pub fn replay_session(line: &[u8]) {
+pub fn replay_session(rt: &impl Print, line: &[u8]) {
     let mut space = [0xEEu8; 2048];
     let room = number_of(field(head_of(line), 1));
     if 2048 < room {
-        say(b"too much room\n");
+        say(rt, b"too much room\n");
         return;
     }
-    replay_in(line, &mut space[0..room]);
+    replay_in(rt, line, &mut space[0..room]);
 }
