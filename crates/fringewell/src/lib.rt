@@ -1,5 +1,5 @@
 // The functions that the C service calls: byte slices and numbers in, structs of numbers out (RULES.md, module 8). Each is one call of
-// what it is named for; what it answers in numbers is in `c_answers`, and include/fringewell.h says it to C.
+// what it is named for; what it answers in numbers is in `c_answers`. `fringewell_c` hands each to C, by the same name.
 #![tactic(auto)]
 
 ghost use Rattle.std.specs.Prelude.{◌≡◌, true, false};
@@ -22,72 +22,63 @@ use iter::{Cursor, Step};
 use writer_state::Words;
 
 // The plain check.
-#[unsafe(no_mangle)]
-pub extern "C" fn fringewell_check(document: &[u8]) -> VerdictNumbers
+pub fn fringewell_check(document: &[u8]) -> VerdictNumbers
     ensures { result ≡ verdict (check false document.now) }
 {
     c_answers::of_verdict(whole::check(document))
 }
 
 // The plain check, under a limit on keys, patterns and options.
-#[unsafe(no_mangle)]
-pub extern "C" fn fringewell_check_under(document: &[u8], limit: usize) -> VerdictNumbers
+pub fn fringewell_check_under(document: &[u8], limit: usize) -> VerdictNumbers
     ensures { result ≡ verdict (check_under (most limit) false document.now) }
 {
     c_answers::of_verdict(whole::check_under(document, cstr::most_of(limit)))
 }
 
 // The strict check.
-#[unsafe(no_mangle)]
-pub extern "C" fn fringewell_check_strict(document: &[u8]) -> VerdictNumbers
+pub fn fringewell_check_strict(document: &[u8]) -> VerdictNumbers
     ensures { result ≡ verdict (check true document.now) }
 {
     c_answers::of_verdict(whole::check_strict(document))
 }
 
 // The strict check, under a limit.
-#[unsafe(no_mangle)]
-pub extern "C" fn fringewell_check_strict_under(document: &[u8], limit: usize) -> VerdictNumbers
+pub fn fringewell_check_strict_under(document: &[u8], limit: usize) -> VerdictNumbers
     ensures { result ≡ verdict (check_under (most limit) true document.now) }
 {
     c_answers::of_verdict(whole::check_strict_under(document, cstr::most_of(limit)))
 }
 
 // Admission, and whether the document has no element.
-#[unsafe(no_mangle)]
-pub extern "C" fn fringewell_is_empty(document: &[u8]) -> VerdictNumbers
+pub fn fringewell_is_empty(document: &[u8]) -> VerdictNumbers
     ensures { result ≡ emptiness (is_empty document.now) }
 {
     c_answers::of_empty(document::is_empty(document))
 }
 
 // The first element of a key.
-#[unsafe(no_mangle)]
-pub extern "C" fn fringewell_lookup(document: &[u8], key: &[u8]) -> ValueNumbers
+pub fn fringewell_lookup(document: &[u8], key: &[u8]) -> ValueNumbers
     ensures { result ≡ found (get document.now key.now) }
 {
     c_answers::of_found(document::get_element(document, key))
 }
 
 // The first element of a key, under a limit.
-#[unsafe(no_mangle)]
-pub extern "C" fn fringewell_lookup_under(document: &[u8], key: &[u8], limit: usize) -> ValueNumbers
+pub fn fringewell_lookup_under(document: &[u8], key: &[u8], limit: usize) -> ValueNumbers
     ensures { result ≡ found (get_under (most limit) document.now key.now) }
 {
     c_answers::of_found(document::get_element_under(document, key, cstr::most_of(limit)))
 }
 
 // The first element of a key, whose value must have this tag.
-#[unsafe(no_mangle)]
-pub extern "C" fn fringewell_lookup_typed(document: &[u8], key: &[u8], tag: u8) -> ValueNumbers
+pub fn fringewell_lookup_typed(document: &[u8], key: &[u8], tag: u8) -> ValueNumbers
     ensures { result ≡ found (get_with document.now key.now tag) }
 {
     c_answers::of_found(document::get_with(document, key, tag))
 }
 
 // The first element of a key, whose value must have this tag, under a limit.
-#[unsafe(no_mangle)]
-pub extern "C" fn fringewell_lookup_typed_under(
+pub fn fringewell_lookup_typed_under(
     document: &[u8],
     key: &[u8],
     tag: u8,
@@ -99,32 +90,28 @@ pub extern "C" fn fringewell_lookup_typed_under(
 }
 
 // What a path leads to.
-#[unsafe(no_mangle)]
-pub extern "C" fn fringewell_path(document: &[u8], path: &[u8]) -> ValueNumbers
+pub fn fringewell_path(document: &[u8], path: &[u8]) -> ValueNumbers
     ensures { result ≡ found (get_path document.now path.now) }
 {
     c_answers::of_found(path::get_element(document, path))
 }
 
 // What a path leads to, under a limit.
-#[unsafe(no_mangle)]
-pub extern "C" fn fringewell_path_under(document: &[u8], path: &[u8], limit: usize) -> ValueNumbers
+pub fn fringewell_path_under(document: &[u8], path: &[u8], limit: usize) -> ValueNumbers
     ensures { result ≡ found (get_path_under (most limit) document.now path.now) }
 {
     c_answers::of_found(path::get_element_under(document, path, cstr::most_of(limit)))
 }
 
 // What a path leads to, whose value must have this tag.
-#[unsafe(no_mangle)]
-pub extern "C" fn fringewell_path_typed(document: &[u8], path: &[u8], tag: u8) -> ValueNumbers
+pub fn fringewell_path_typed(document: &[u8], path: &[u8], tag: u8) -> ValueNumbers
     ensures { result ≡ found (get_path_with document.now path.now tag) }
 {
     c_answers::of_found(path::get_with(document, path, tag))
 }
 
 // What a path leads to, whose value must have this tag, under a limit.
-#[unsafe(no_mangle)]
-pub extern "C" fn fringewell_path_typed_under(
+pub fn fringewell_path_typed_under(
     document: &[u8],
     path: &[u8],
     tag: u8,
@@ -136,16 +123,14 @@ pub extern "C" fn fringewell_path_typed_under(
 }
 
 // The step at a cursor, and the cursor behind it.
-#[unsafe(no_mangle)]
-pub extern "C" fn fringewell_step(document: &[u8], offset: usize, ended: bool) -> StepNumbers
+pub fn fringewell_step(document: &[u8], offset: usize, ended: bool) -> StepNumbers
     ensures { result ≡ steps document.now (cursor offset ended) }
 {
     c_answers::of_step(iter::next(document, Cursor { offset, ended }))
 }
 
 // The step at a cursor, under a limit.
-#[unsafe(no_mangle)]
-pub extern "C" fn fringewell_step_under(
+pub fn fringewell_step_under(
     document: &[u8],
     offset: usize,
     ended: bool,
@@ -159,8 +144,7 @@ pub extern "C" fn fringewell_step_under(
 
 // The element at a cursor, its value, and the cursor behind it: a step, and the reading of what it yields. That it is written out here and
 // below, and shared by no function, is for speed: the answer is then not copied.
-#[unsafe(no_mangle)]
-pub extern "C" fn fringewell_next(document: &[u8], offset: usize, ended: bool) -> ElementNumbers
+pub fn fringewell_next(document: &[u8], offset: usize, ended: bool) -> ElementNumbers
     ensures { result ≡ reads document.now (cursor offset ended) }
 {
     match iter::next(document, Cursor { offset, ended }) {
@@ -177,8 +161,7 @@ pub extern "C" fn fringewell_next(document: &[u8], offset: usize, ended: bool) -
 }
 
 // The same, under a limit.
-#[unsafe(no_mangle)]
-pub extern "C" fn fringewell_next_under(
+pub fn fringewell_next_under(
     document: &[u8],
     offset: usize,
     ended: bool,
@@ -201,36 +184,28 @@ pub extern "C" fn fringewell_next_under(
 }
 
 // The element at a place, and its value.
-#[unsafe(no_mangle)]
-pub extern "C" fn fringewell_read(document: &[u8], place: usize) -> ValueNumbers
+pub fn fringewell_read(document: &[u8], place: usize) -> ValueNumbers
     ensures { result ≡ found (get_at document.now place) }
 {
     c_answers::of_found(document::element_at(document, place))
 }
 
 // The same, under a limit.
-#[unsafe(no_mangle)]
-pub extern "C" fn fringewell_read_under(document: &[u8], place: usize, limit: usize) -> ValueNumbers
+pub fn fringewell_read_under(document: &[u8], place: usize, limit: usize) -> ValueNumbers
     ensures { result ≡ found (get_at_under (most limit) document.now place) }
 {
     c_answers::of_found(document::element_at_under(document, place, cstr::most_of(limit)))
 }
 
 // The text of the element at a place, with EF BF BD for each maximal bad part, at the front of a lent buffer.
-#[unsafe(no_mangle)]
-pub extern "C" fn fringewell_read_lossy(
-    document: &[u8],
-    place: usize,
-    out: &mut [u8],
-) -> ShownNumbers
+pub fn fringewell_read_lossy(document: &[u8], place: usize, out: &mut [u8]) -> ShownNumbers
     ensures { left result out.new ≡ shows document.now place out.old }
 {
     c_answers::of_shown(lossy::read_utf8_lossy(out, document, place))
 }
 
 // The same, under a limit.
-#[unsafe(no_mangle)]
-pub extern "C" fn fringewell_read_lossy_under(
+pub fn fringewell_read_lossy_under(
     document: &[u8],
     place: usize,
     out: &mut [u8],
@@ -243,16 +218,14 @@ pub extern "C" fn fringewell_read_lossy_under(
 }
 
 // Both documents as one, at the front of a lent buffer.
-#[unsafe(no_mangle)]
-pub extern "C" fn fringewell_join(first: &[u8], second: &[u8], out: &mut [u8]) -> JoinedNumbers
+pub fn fringewell_join(first: &[u8], second: &[u8], out: &mut [u8]) -> JoinedNumbers
     ensures { left result out.new ≡ joins first.now second.now out.old }
 {
     c_answers::of_joined(join::join(out, first, second))
 }
 
 // The version of this library: a million times the major number, a thousand times the minor one, and the patch.
-#[unsafe(no_mangle)]
-pub extern "C" fn fringewell_version() -> u32
+pub fn fringewell_version() -> u32
     ensures { result ≡ 11000 }
 {
     11000
@@ -266,8 +239,7 @@ pub struct State {
 }
 
 // A fresh state: nothing used, nothing open.
-#[unsafe(no_mangle)]
-pub extern "C" fn fringewell_state_new() -> State
+pub fn fringewell_state_new() -> State
     ensures { result.words ≡ writer.fresh }
 {
     State {
@@ -276,8 +248,7 @@ pub extern "C" fn fringewell_state_new() -> State
 }
 
 // Opens the top.
-#[unsafe(no_mangle)]
-pub extern "C" fn fringewell_state_open(words: &mut Words, out: &mut [u8]) -> WrittenNumbers
+pub fn fringewell_state_open(words: &mut Words, out: &mut [u8]) -> WrittenNumbers
     ensures { leaves result words.new out.new
         ≡ performs (writer.open_top) words.old out.old }
 {
@@ -286,8 +257,7 @@ pub extern "C" fn fringewell_state_open(words: &mut Words, out: &mut [u8]) -> Wr
 }
 
 // Opens a document in the innermost.
-#[unsafe(no_mangle)]
-pub extern "C" fn fringewell_state_open_document(
+pub fn fringewell_state_open_document(
     words: &mut Words,
     out: &mut [u8],
     key: &[u8],
@@ -300,12 +270,7 @@ pub extern "C" fn fringewell_state_open_document(
 }
 
 // Opens an array in the innermost.
-#[unsafe(no_mangle)]
-pub extern "C" fn fringewell_state_open_array(
-    words: &mut Words,
-    out: &mut [u8],
-    key: &[u8],
-) -> WrittenNumbers
+pub fn fringewell_state_open_array(words: &mut Words, out: &mut [u8], key: &[u8]) -> WrittenNumbers
     ensures { leaves result words.new out.new
         ≡ performs (writer.open_nest grammar.array key.now) words.old out.old }
 {
@@ -314,8 +279,7 @@ pub extern "C" fn fringewell_state_open_array(
 }
 
 // Closes the innermost.
-#[unsafe(no_mangle)]
-pub extern "C" fn fringewell_state_close(words: &mut Words, out: &mut [u8]) -> WrittenNumbers
+pub fn fringewell_state_close(words: &mut Words, out: &mut [u8]) -> WrittenNumbers
     ensures { leaves result words.new out.new
         ≡ performs (writer.close) words.old out.old }
 {
@@ -324,8 +288,7 @@ pub extern "C" fn fringewell_state_close(words: &mut Words, out: &mut [u8]) -> W
 }
 
 // Appends a double by its bits.
-#[unsafe(no_mangle)]
-pub extern "C" fn fringewell_state_append_double(
+pub fn fringewell_state_append_double(
     words: &mut Words,
     out: &mut [u8],
     key: &[u8],
@@ -339,8 +302,7 @@ pub extern "C" fn fringewell_state_append_double(
 }
 
 // Appends a boolean.
-#[unsafe(no_mangle)]
-pub extern "C" fn fringewell_state_append_bool(
+pub fn fringewell_state_append_bool(
     words: &mut Words,
     out: &mut [u8],
     key: &[u8],
@@ -354,8 +316,7 @@ pub extern "C" fn fringewell_state_append_bool(
 }
 
 // Appends an int32.
-#[unsafe(no_mangle)]
-pub extern "C" fn fringewell_state_append_int32(
+pub fn fringewell_state_append_int32(
     words: &mut Words,
     out: &mut [u8],
     key: &[u8],
@@ -369,8 +330,7 @@ pub extern "C" fn fringewell_state_append_int32(
 }
 
 // Appends an int64.
-#[unsafe(no_mangle)]
-pub extern "C" fn fringewell_state_append_int64(
+pub fn fringewell_state_append_int64(
     words: &mut Words,
     out: &mut [u8],
     key: &[u8],
@@ -384,8 +344,7 @@ pub extern "C" fn fringewell_state_append_int64(
 }
 
 // Appends a datetime, in milliseconds since 1970.
-#[unsafe(no_mangle)]
-pub extern "C" fn fringewell_state_append_datetime(
+pub fn fringewell_state_append_datetime(
     words: &mut Words,
     out: &mut [u8],
     key: &[u8],
@@ -399,8 +358,7 @@ pub extern "C" fn fringewell_state_append_datetime(
 }
 
 // Appends a timestamp.
-#[unsafe(no_mangle)]
-pub extern "C" fn fringewell_state_append_timestamp(
+pub fn fringewell_state_append_timestamp(
     words: &mut Words,
     out: &mut [u8],
     key: &[u8],
@@ -415,12 +373,7 @@ pub extern "C" fn fringewell_state_append_timestamp(
 }
 
 // Appends a null.
-#[unsafe(no_mangle)]
-pub extern "C" fn fringewell_state_append_null(
-    words: &mut Words,
-    out: &mut [u8],
-    key: &[u8],
-) -> WrittenNumbers
+pub fn fringewell_state_append_null(words: &mut Words, out: &mut [u8], key: &[u8]) -> WrittenNumbers
     ensures { leaves result words.new out.new
         ≡ performs (writer.append key.now value.null) words.old out.old }
 {
@@ -429,8 +382,7 @@ pub extern "C" fn fringewell_state_append_null(
 }
 
 // Appends an undefined.
-#[unsafe(no_mangle)]
-pub extern "C" fn fringewell_state_append_undefined(
+pub fn fringewell_state_append_undefined(
     words: &mut Words,
     out: &mut [u8],
     key: &[u8],
@@ -443,8 +395,7 @@ pub extern "C" fn fringewell_state_append_undefined(
 }
 
 // Appends a min key.
-#[unsafe(no_mangle)]
-pub extern "C" fn fringewell_state_append_min_key(
+pub fn fringewell_state_append_min_key(
     words: &mut Words,
     out: &mut [u8],
     key: &[u8],
@@ -457,8 +408,7 @@ pub extern "C" fn fringewell_state_append_min_key(
 }
 
 // Appends a max key.
-#[unsafe(no_mangle)]
-pub extern "C" fn fringewell_state_append_max_key(
+pub fn fringewell_state_append_max_key(
     words: &mut Words,
     out: &mut [u8],
     key: &[u8],
@@ -471,8 +421,7 @@ pub extern "C" fn fringewell_state_append_max_key(
 }
 
 // Appends a string.
-#[unsafe(no_mangle)]
-pub extern "C" fn fringewell_state_append_string(
+pub fn fringewell_state_append_string(
     words: &mut Words,
     out: &mut [u8],
     key: &[u8],
@@ -486,8 +435,7 @@ pub extern "C" fn fringewell_state_append_string(
 }
 
 // Appends JavaScript code.
-#[unsafe(no_mangle)]
-pub extern "C" fn fringewell_state_append_code(
+pub fn fringewell_state_append_code(
     words: &mut Words,
     out: &mut [u8],
     key: &[u8],
@@ -501,8 +449,7 @@ pub extern "C" fn fringewell_state_append_code(
 }
 
 // Appends a symbol.
-#[unsafe(no_mangle)]
-pub extern "C" fn fringewell_state_append_symbol(
+pub fn fringewell_state_append_symbol(
     words: &mut Words,
     out: &mut [u8],
     key: &[u8],
@@ -516,8 +463,7 @@ pub extern "C" fn fringewell_state_append_symbol(
 }
 
 // Appends binary data.
-#[unsafe(no_mangle)]
-pub extern "C" fn fringewell_state_append_binary(
+pub fn fringewell_state_append_binary(
     words: &mut Words,
     out: &mut [u8],
     key: &[u8],
@@ -533,8 +479,7 @@ pub extern "C" fn fringewell_state_append_binary(
 }
 
 // Appends a regular expression.
-#[unsafe(no_mangle)]
-pub extern "C" fn fringewell_state_append_regex(
+pub fn fringewell_state_append_regex(
     words: &mut Words,
     out: &mut [u8],
     key: &[u8],
@@ -550,8 +495,7 @@ pub extern "C" fn fringewell_state_append_regex(
 }
 
 // Appends a DBPointer.
-#[unsafe(no_mangle)]
-pub extern "C" fn fringewell_state_append_dbpointer(
+pub fn fringewell_state_append_dbpointer(
     words: &mut Words,
     out: &mut [u8],
     key: &[u8],
@@ -567,8 +511,7 @@ pub extern "C" fn fringewell_state_append_dbpointer(
 }
 
 // Appends an ObjectId.
-#[unsafe(no_mangle)]
-pub extern "C" fn fringewell_state_append_object_id(
+pub fn fringewell_state_append_object_id(
     words: &mut Words,
     out: &mut [u8],
     key: &[u8],
@@ -582,8 +525,7 @@ pub extern "C" fn fringewell_state_append_object_id(
 }
 
 // Appends a decimal128 by its bits.
-#[unsafe(no_mangle)]
-pub extern "C" fn fringewell_state_append_decimal128(
+pub fn fringewell_state_append_decimal128(
     words: &mut Words,
     out: &mut [u8],
     key: &[u8],
