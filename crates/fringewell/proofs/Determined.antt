@@ -174,12 +174,12 @@ fringewell_read_under_determined κs a r₁ r₂ s₁ s₂ p q = p ∙ sym q
 -- ---- texts that are shown
 
 pub fringewell_read_lossy_determined : (κs : Lfts 2) (a : Dens κs read_lossy_kinds.ps)
-    → DeterminedBuf (λ s. s.1.0.now) (read_lossy_reads.Post κs a)
-fringewell_read_lossy_determined κs a r₁ r₂ s₁ s₂ p q = both r₁ r₂ s₁.1.0.now s₂.1.0.now p q
+    → DeterminedBuf (λ s. s.1.1.0.now) (read_lossy_reads.Post κs a)
+fringewell_read_lossy_determined κs a r₁ r₂ s₁ s₂ p q = both r₁ r₂ s₁.1.1.0.now s₂.1.1.0.now p q
 
 pub fringewell_read_lossy_under_determined : (κs : Lfts 2) (a : Dens κs read_lossy_under_kinds.ps)
-    → DeterminedBuf (λ s. s.1.0.now) (read_lossy_under_reads.Post κs a)
-fringewell_read_lossy_under_determined κs a r₁ r₂ s₁ s₂ p q = both r₁ r₂ s₁.1.0.now s₂.1.0.now p q
+    → DeterminedBuf (λ s. s.1.1.0.now) (read_lossy_under_reads.Post κs a)
+fringewell_read_lossy_under_determined κs a r₁ r₂ s₁ s₂ p q = both r₁ r₂ s₁.1.1.0.now s₂.1.1.0.now p q
 
 -- ---- joining
 

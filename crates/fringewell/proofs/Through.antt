@@ -17,7 +17,7 @@ use Rattle.c_answers.specs.declared.JoinedNumbers.{JoinedNumbers}
 use Rattle.c_answers.specs.declared.ShownNumbers.{ShownNumbers}
 use Rattle.c_answers.specs.declared.StepNumbers.{StepNumbers}
 use Rattle.c_answers.specs.declared.WrittenNumbers.{WrittenNumbers}
-use Rattle.fringewell.specs.Left.{steps_under, reads_under, left, shows_under, joins, leaves, performs}
+use Rattle.fringewell.specs.Left.{steps_under, reads_under, left, left_shown, shows_under, joins, leaves, performs}
 
 -- an answer that says a, in the numbers of what it says
 pub through : {A N : Type 0} (numbers : A → N) {n : N} {x a : A} → x ≡ a → n ≡ numbers x → n ≡ numbers a
@@ -37,7 +37,7 @@ pub join_through : (first second buffer : List ℕ) {exit : List ℕ} {o : paper
 join_through first second buffer q e = rw (e, ← q)
 
 pub shown_through : (limit : Limit) (s : List ℕ) (place : ℕ) (buffer : List ℕ) {exit : List ℕ} {a : Answer Shown} {n : ShownNumbers}
-    → lossy.leaves a exit ≡ lossy.read_lossy_under limit s place buffer → n ≡ shown a → left n exit ≡ shows_under limit s place buffer
+    → lossy.leaves a exit ≡ lossy.read_lossy_under limit s place buffer → n ≡ shown a → left_shown n exit ≡ shows_under limit s place buffer
 shown_through limit s place buffer q e = rw (e, ← q)
 
 pub performed_through : (c : writer.Call) (state buffer : List ℕ) {exit_state exit : List ℕ} {number : ℕ} {n : WrittenNumbers}

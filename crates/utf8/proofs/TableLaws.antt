@@ -116,6 +116,9 @@ pub record Going (s c m : List ℕ) (state i : ℕ) : Type 0 where
   pub inside : i ≤ length s
   pub same : whole (read l (drop i s)) ≡ utf8 s
 
+pub going_class : {s c m : List ℕ} {state i : ℕ} (b : ℕ) → Going s c m state i → b < 256 → class_of c b < 12
+going_class b g h = class_few b g.right h
+
 pub going_start : {s c m : List ℕ} → Right c m → Going s c m 0 0
 unfolding utf8
 going_start t =

@@ -16,20 +16,33 @@ use Rattle.bson.specs.Value.{Value, code_with_scope, scope_value}
 use Rattle.bson.specs.Lossy.{Text, text_and, scope_text}
 use Rattle.laws.proofs.AnswerLaws.{unless_gives, then_gives, gives_injective}
 use Rattle.laws.proofs.FramingLaws.{string_is}
-use Rattle.value.specs.Code.{code_by, code_size, shown_code_size, scope_at}
+use Rattle.value.specs.Code.{code_size, shown_code_size, scope_at}
 
 -- the size of a code that is taken: it has a length field and a zero, and the scope begins behind it
-pub code_is : (test : List ℕ → Bool) (v : List ℕ) (n : ℕ) → code_by test v ≡ gives n → (5 ≤ n) × (4 + n < length v)
-unfolding code_by scope_at
-code_is test v n e =
-    let (t, f) = unless_gives (leb 14 (length v)) 12 _ e in
-    let (m, q, g) = then_gives (string_size (drop 4 v)) _ f in
-    let (u, h) = unless_gives (test (bytes v (part 8 (m - 5)))) 6 _ g in
+code_at : (v : List ℕ) (m n : ℕ) → string_size (drop 4 v) ≡ gives m → (then (scope_at v (4 + m)) λ _. gives m) ≡ gives n
+    → (5 ≤ n) × (4 + n < length v)
+unfolding scope_at
+code_at v m n q h =
     let (k, z, i) = then_gives (scope_at v (4 + m)) _ h in
     let (l, a) = unless_gives (ltb (4 + m) (length v)) 12 (admitted (drop (4 + m) v)) z in
     let s = string_is (drop 4 v) m q in
     let j : m ≡ n = gives_injective i in
     (omega arith, omega (arith, ltb-true (4 + m) (length v) l))
+
+pub code_is : (v : List ℕ) (n : ℕ) → code_size v ≡ gives n → (5 ≤ n) × (4 + n < length v)
+unfolding code_size
+code_is v n e =
+    let (t, f) = unless_gives (leb 14 (length v)) 12 _ e in
+    let (m, q, g) = then_gives (string_size (drop 4 v)) _ f in
+    let (u, h) = unless_gives (utf8 (bytes v (part 8 (m - 5)))) 6 _ g in
+    code_at v m n q h
+
+pub shown_code_is : (v : List ℕ) (n : ℕ) → shown_code_size v ≡ gives n → (5 ≤ n) × (4 + n < length v)
+unfolding shown_code_size
+shown_code_is v n e =
+    let (t, f) = unless_gives (leb 14 (length v)) 12 _ e in
+    let (m, q, h) = then_gives (string_size (drop 4 v)) _ f in
+    code_at v m n q h
 
 -- tests one after the other, whether what is given is made in the midst of them or behind them
 module _ {A B : Type 0} (n : ℕ) (f : ℕ → Answer B) where
@@ -52,7 +65,7 @@ abbrev pub code_and_scope : Part → ℕ → Answer Value
 code_and_scope p n = gives (code_with_scope (part (p.offset + 8) (n - 5)) (trim (4 + n) 0 p))
 
 pub scope_value_law : (v : List ℕ) (p : Part) → scope_value v p ≡ then (code_size v) (code_and_scope p)
-unfolding scope_value code_by scope_at
+unfolding scope_value code_size scope_at
 scope_value_law v p =
     in_order (λ n. utf8 (bytes v (part 8 (n - 5)))) (λ n. ltb (4 + n) (length v)) (λ n. admitted (drop (4 + n) v)) (code_and_scope p)
     (leb 14 (length v)) (string_size (drop 4 v))
@@ -62,7 +75,7 @@ abbrev pub code_text_and : Part → ℕ → Answer Text
 code_text_and p n = gives (text_and (part (p.offset + 8) (n - 5)) (trim (4 + n) 0 p))
 
 pub scope_text_law : (v : List ℕ) (p : Part) → scope_text v p ≡ then (shown_code_size v) (code_text_and p)
-unfolding scope_text code_by scope_at
+unfolding scope_text shown_code_size scope_at
 scope_text_law v p =
     in_order (λ n. true) (λ n. ltb (4 + n) (length v)) (λ n. admitted (drop (4 + n) v)) (code_text_and p) (leb 14 (length v))
     (string_size (drop 4 v))

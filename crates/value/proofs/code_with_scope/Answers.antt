@@ -1,6 +1,5 @@
 -- `value::code_with_scope` meets its contract: the size of the code says where code and scope lie.
 use native.Mathlib.Omega.{arith}
-use Rattle.bson.specs.Utf8.{utf8}
 use Rattle.laws.proofs.AnswerLaws.{answered}
 use Rattle.part.specs.Said.{said_length}
 use Rattle.value.proofs.CodeLaws.{code_is, scope_value_law}
@@ -8,15 +7,15 @@ use Rattle.value.proofs.code_with_scope.Goals as goal
 
 pub overflow_sub-size : goal.overflow_sub-size
 overflow_sub-size c =
-    omega (arith, code_is utf8 _ _ (answered said_length c.code_len.ensures c.in-Is.is))
+    omega (arith, code_is _ _ (answered said_length c.code_len.ensures c.in-Is.is))
 
 pub overflow_add-n : goal.overflow_add-n
 overflow_add-n c =
-    omega (arith, code_is utf8 _ _ (answered said_length c.code_len.ensures c.in-Is.is))
+    omega (arith, code_is _ _ (answered said_length c.code_len.ensures c.in-Is.is))
 
 pub trim-scope-requires : goal.trim-scope-requires
 trim-scope-requires c =
-    let h = code_is utf8 _ _ (answered said_length c.code_len.ensures c.in-Is.is) in
+    let h = code_is _ _ (answered said_length c.code_len.ensures c.in-Is.is) in
     (omega arith, omega arith)
 
 pub returns-in-Refused : goal.returns-in-Refused

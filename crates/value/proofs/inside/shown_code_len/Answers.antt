@@ -5,18 +5,18 @@ use Rattle.bson.specs.Framing.{string_size}
 use Rattle.laws.proofs.AnswerLaws.{answered, rest_answered}
 use Rattle.laws.proofs.FramingLaws.{string_is}
 use Rattle.part.specs.Said.{said_length}
-use Rattle.value.specs.Code.{code_by}
+use Rattle.value.specs.Code.{shown_code_size}
 use Rattle.value.proofs.inside.shown_code_len.Goals as goal
 
 pub returns-then-v-lt-MIN_CODE_WITH_SCOPE_SIZE : goal.returns-then-v-lt-MIN_CODE_WITH_SCOPE_SIZE
-unfolding code_by
+unfolding shown_code_size
 returns-then-v-lt-MIN_CODE_WITH_SCOPE_SIZE c = rw (lt-leb _ _ c.if-v-lt-MIN_CODE_WITH_SCOPE_SIZE.true)
 
 pub overflow_add-n : goal.overflow_add-n
 overflow_add-n c = omega (arith, string_is _ _ (answered said_length c.read_len.ensures c.in-Is.is))
 
 pub returns-in-Refused : goal.returns-in-Refused
-unfolding code_by
+unfolding shown_code_size
 returns-in-Refused c =
     let v = c.args.v.now in
     rw (
@@ -25,7 +25,7 @@ returns-in-Refused c =
     )
 
 pub returns-in-Refused-scope : goal.returns-in-Refused-scope
-unfolding code_by
+unfolding shown_code_size
 returns-in-Refused-scope c =
     let v = c.args.v.now in
     rw (
@@ -35,7 +35,7 @@ returns-in-Refused-scope c =
     )
 
 pub returns-in-Is-scope : goal.returns-in-Is-scope
-unfolding code_by
+unfolding shown_code_size
 returns-in-Is-scope c =
     let v = c.args.v.now in
     rw (

@@ -1,0 +1,12 @@
+-- `fringewell::fringewell_read_under` meets its contract: the number for the limit, the call, then its numbers.
+use mathlib.Core.Path.{◌∙◌}
+use native.Mathlib.Omega.{arith}
+use Rattle.c_answers.specs.Numbers.{found}
+use Rattle.fringewell.proofs.Limits.{read_passed}
+use Rattle.fringewell.proofs.Through.{through}
+use Rattle.fringewell.proofs.fringewell_read_under.Goals as goal
+
+pub returns : goal.returns
+returns c =
+    let m = c.most_of.ensures in
+    through found (c.element_at_under.ensures ∙ read_passed _ _ m _ (omega arith) _) c.of_found.ensures
