@@ -8,7 +8,7 @@ use Rattle.theorems.specs.ReadBack as read_back
 use Rattle.theorems.specs.ReadBack.{Building, built, Session, run, session_start, Stands}
 use Rattle.theorems.proofs.Writer.ReadBack.{writer_reads_back}
 use Rattle.c_answers.specs.declared.WrittenNumbers.{WrittenNumbers}
-use Rattle.promises.specs.Turn.{Lent, after_turn}
+use Rattle.promises.specs.Turn.{Room, after_turn}
 use Rattle.promises.specs.CTurn as turns
 use Rattle.promises.specs.CTurn.{left_by, CTurn, CTrace, done, turn, begun, CTraceReadsBack, CClosedReadsBack}
 use Rattle.promises.proofs.NoWeaker.{performs_says}
@@ -17,7 +17,7 @@ use Rattle.promises.proofs.OneTurn.{turn_ends_by, unchanged_by, behind_by}
 -- ---- one promise
 
 -- each promise says that what is left is what the definition performs
-pub c_turn_performs : {words out : Lent} {r : WrittenNumbers} {c : Call} {left : Desk} → CTurn words out r c left
+pub c_turn_performs : {words out : Room} {r : WrittenNumbers} {c : Call} {left : Desk} → CTurn words out r c left
     → written r.number left.state left.buffer ≡ performed c words.now out.now
 c_turn_performs (turns.opens_top κs s promise) = performs_says _ _ _ _ _ _ promise
 c_turn_performs (turns.opens_document κs key s promise) = performs_says _ _ _ _ _ _ promise
@@ -44,7 +44,7 @@ c_turn_performs (turns.appends_decimal128 κs key bits s promise) = performs_say
 
 -- ---- one turn
 
-module _ {words out : Lent} {r : WrittenNumbers} {c : Call} {left : Desk} (t : CTurn words out r c left) where
+module _ {words out : Room} {r : WrittenNumbers} {c : Call} {left : Desk} (t : CTurn words out r c left) where
   c_turn_ends : (tree : Building)
       → read_back.turn c (record { left = left_by words out; tree = tree })
       ≡ record { left = left; tree = after_turn r.number c tree }

@@ -11,13 +11,13 @@ use Rattle.theorems.proofs.Writer.ReadBack.{writer_reads_back}
 use Rattle.doc_writer.specs.declared.DocWriter.{DocWriter}
 use Rattle.doc_writer.specs.declared.Written.{Written}
 use Rattle.promises.specs.Turn as turns
-use Rattle.promises.specs.Turn.{Lent, Turn, session, after_turn, Trace, done, turn, WriterTraceReadsBack, ClosedReadsBack}
+use Rattle.promises.specs.Turn.{Room, Turn, session, after_turn, Trace, done, turn, WriterTraceReadsBack, ClosedReadsBack}
 use Rattle.promises.proofs.OneTurn.{turn_ends_by, unchanged_by, behind_by}
 
 -- ---- one promise
 
 -- each promise says that what is left is what the definition performs
-pub turn_performs : {out : Lent} {w : DocWriter} {r : Written} {c : Call} {left : List ℕ} → Turn out w r c left
+pub turn_performs : {out : Room} {w : DocWriter} {r : Written} {c : Call} {left : List ℕ} → Turn out w r c left
     → written r.number r.writer.words left ≡ performed c w.words out.now
 turn_performs (turns.opens_top κs s promise) = promise
 turn_performs (turns.opens_document κs key s promise) = promise
@@ -44,7 +44,7 @@ turn_performs (turns.appends_decimal128 κs key bits s promise) = promise
 
 -- ---- one turn
 
-module _ {out : Lent} {w : DocWriter} {r : Written} {c : Call} {left : List ℕ} (t : Turn out w r c left) where
+module _ {out : Room} {w : DocWriter} {r : Written} {c : Call} {left : List ℕ} (t : Turn out w r c left) where
   turn_ends : (tree : Building) → read_back.turn c (session w out.now tree) ≡ session r.writer left (after_turn r.number c tree)
   turn_ends = turn_ends_by c (desk w.words out.now) (written r.number r.writer.words left) (turn_performs t)
 

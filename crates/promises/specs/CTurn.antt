@@ -32,7 +32,7 @@ use Rattle.fringewell.proofs.fringewell_state_append_regex.Reads as append_regex
 use Rattle.fringewell.proofs.fringewell_state_append_dbpointer.Reads as append_dbpointer_reads
 use Rattle.fringewell.proofs.fringewell_state_append_object_id.Reads as append_object_id_reads
 use Rattle.fringewell.proofs.fringewell_state_append_decimal128.Reads as append_decimal128_reads
-use Rattle.promises.specs.Turn.{Lent, after_turn}
+use Rattle.promises.specs.Turn.{Lent, Room, after_turn}
 
 -- ---- turns
 
@@ -41,11 +41,11 @@ pub data CFresh (w : State) : Type 0 where
   news : (κs : Lfts 0) (s : _) → new_reads.Post κs tt w s → CFresh w
 
 -- what is left in a lent state and a lent buffer
-abbrev pub left_by : Lent → Lent → Desk
+abbrev pub left_by : Room → Room → Desk
 left_by words out = desk words.now out.now
 
 -- lent a state and a buffer, a call may answer these numbers and leave this: a case for each function, of its promise alone
-pub data CTurn (words out : Lent) (r : WrittenNumbers) : Call → Desk → Type 0 where
+pub data CTurn (words out : Room) (r : WrittenNumbers) : Call → Desk → Type 0 where
   opens_top : (κs : Lfts 2) (s : _) → open_reads.Post κs (words, (out, tt)) r s → CTurn words out r open_top (left_by s.0 s.1.0)
   opens_document : (κs : Lfts 3) (key : Lent) (s : _) → open_document_reads.Post κs (words, (out, (key, tt))) r s
       → CTurn words out r (open_nest document key.now) (left_by s.0 s.1.0)
@@ -98,7 +98,7 @@ pub data CTurn (words out : Lent) (r : WrittenNumbers) : Call → Desk → Type 
 -- "each call given the buffer and the state that the one before left"
 pub data CTrace (end : Session) : List Call → Session → Type 0 where
   done : CTrace end [] end
-  turn : (words out : Lent) (r : WrittenNumbers) (c : Call) (left : Desk) (tree : Building) (cs : List Call) → CTurn words out r c left
+  turn : (words out : Room) (r : WrittenNumbers) (c : Call) (left : Desk) (tree : Building) (cs : List Call) → CTurn words out r c left
       → CTrace end cs (record { left = left; tree = after_turn r.number c tree })
       → CTrace end (c ∷ cs) (record { left = left_by words out; tree = tree })
 

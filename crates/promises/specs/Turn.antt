@@ -2,7 +2,7 @@
 -- RULES.md, "Writer and joining").
 use Rattle.std.specs.Prelude.{ℕ, zero, suc, Bool, List, [], ◌∷◌, ℤ}
 use contract.Lifetimes.{Lfts}
-use Rattle.std.specs.Borrow.{Bor}
+use Rattle.std.specs.Borrow.{Bor, MutBor}
 use Rattle.bson.specs.Grammar.{document, array, Elements}
 use Rattle.bson.specs.Value.{boolean, int32, int64, date_time, double, timestamp, object_id, decimal128, string, code, symbol, null}
 use Rattle.bson.specs.Value.{undefined, min_key, max_key, db_pointer, binary, regex}
@@ -36,16 +36,20 @@ use Rattle.doc_writer.proofs.bytes.append_decimal128.Reads as append_decimal128_
 
 -- ---- turns
 
--- what is lent: a buffer, a key or a text
+-- what is lent to be read: a key or a text
 abbrev pub Lent : Type 0
 Lent = Bor (List ℕ)
+
+-- and what is lent to be written: a buffer
+abbrev pub Room : Type 0
+Room = MutBor (List ℕ)
 
 -- "begun fresh": a state that `new` may answer
 pub data Fresh (w : DocWriter) : Type 0 where
   news : (κs : Lfts 0) (s : _) → new_reads.Post κs tt w s → Fresh w
 
 -- given a buffer and a state, a call may answer this and leave these bytes: a case for each function, of its promise alone
-pub data Turn (out : Lent) (w : DocWriter) (r : Written) : Call → List ℕ → Type 0 where
+pub data Turn (out : Room) (w : DocWriter) (r : Written) : Call → List ℕ → Type 0 where
   opens_top : (κs : Lfts 1) (s : _) → open_reads.Post κs (out, (w, tt)) r s → Turn out w r open_top s.0.now
   opens_document : (κs : Lfts 2) (key : Lent) (s : _) → open_document_reads.Post κs (out, (w, (key, tt))) r s
       → Turn out w r (open_nest document key.now) s.0.now
@@ -107,7 +111,7 @@ after_turn (suc number) c tree = tree
 -- "each call given the buffer and the state that the one before left"
 pub data Trace (end : Session) : List Call → Session → Type 0 where
   done : Trace end [] end
-  turn : (out : Lent) (w : DocWriter) (r : Written) (c : Call) (left : List ℕ) (tree : Building) (cs : List Call) → Turn out w r c left
+  turn : (out : Room) (w : DocWriter) (r : Written) (c : Call) (left : List ℕ) (tree : Building) (cs : List Call) → Turn out w r c left
       → Trace end cs (session r.writer left (after_turn r.number c tree)) → Trace end (c ∷ cs) (session w out.now tree)
 
 -- ---- the statements

@@ -70,15 +70,15 @@ pub fn code_len(v: &[u8]) -> Length
 }
 
 // The same of a code that is shown with its damage: 12, 8, 9, 10, 12, 1, 2, 3, in this order.
-pub fn shown_code_len(v: &[u8]) -> Length
-    ensures { said_length result ≡ shown_code_size v.now }
+pub fn shown_code_len(shown: &[u8]) -> Length
+    ensures { said_length result ≡ shown_code_size shown.now }
 {
-    if v.len() < MIN_CODE_WITH_SCOPE_SIZE {
+    if shown.len() < MIN_CODE_WITH_SCOPE_SIZE {
         return Length::Refused(12);
     }
-    match raw::read_len(&v[4..]) {
+    match raw::read_len(&shown[4..]) {
         Length::Refused(number) => Length::Refused(number),
-        Length::Is(n) => match scope(v, 4 + n) {
+        Length::Is(n) => match scope(shown, 4 + n) {
             Length::Refused(number) => Length::Refused(number),
             Length::Is(_) => Length::Is(n),
         },

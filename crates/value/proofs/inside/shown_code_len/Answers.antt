@@ -8,9 +8,9 @@ use Rattle.part.specs.Said.{said_length}
 use Rattle.value.specs.Code.{shown_code_size}
 use Rattle.value.proofs.inside.shown_code_len.Goals as goal
 
-pub returns-then-v-lt-MIN_CODE_WITH_SCOPE_SIZE : goal.returns-then-v-lt-MIN_CODE_WITH_SCOPE_SIZE
+pub returns-then-shown-lt-MIN_CODE_WITH_SCOPE_SIZE : goal.returns-then-shown-lt-MIN_CODE_WITH_SCOPE_SIZE
 unfolding shown_code_size
-returns-then-v-lt-MIN_CODE_WITH_SCOPE_SIZE c = rw (lt-leb _ _ c.if-v-lt-MIN_CODE_WITH_SCOPE_SIZE.true)
+returns-then-shown-lt-MIN_CODE_WITH_SCOPE_SIZE c = rw (lt-leb _ _ c.if-shown-lt-MIN_CODE_WITH_SCOPE_SIZE.true)
 
 pub overflow_add-n : goal.overflow_add-n
 overflow_add-n c = omega (arith, string_is _ _ (answered said_length c.read_len.ensures c.in-Is.is))
@@ -18,18 +18,18 @@ overflow_add-n c = omega (arith, string_is _ _ (answered said_length c.read_len.
 pub returns-in-Refused : goal.returns-in-Refused
 unfolding shown_code_size
 returns-in-Refused c =
-    let v = c.args.v.now in
+    let v = c.args.shown.now in
     rw (
-      le-leb _ _ c.if-v-lt-MIN_CODE_WITH_SCOPE_SIZE.false,
+      le-leb _ _ c.if-shown-lt-MIN_CODE_WITH_SCOPE_SIZE.false,
       rest_answered said_length string_size v 4 c.read_len.ensures c.in-Refused.is,
     )
 
 pub returns-in-Refused-scope : goal.returns-in-Refused-scope
 unfolding shown_code_size
 returns-in-Refused-scope c =
-    let v = c.args.v.now in
+    let v = c.args.shown.now in
     rw (
-      le-leb _ _ c.if-v-lt-MIN_CODE_WITH_SCOPE_SIZE.false,
+      le-leb _ _ c.if-shown-lt-MIN_CODE_WITH_SCOPE_SIZE.false,
       rest_answered said_length string_size v 4 c.read_len.ensures c.in-Is.is,
       answered said_length c.scope.ensures c.in-Refused-scope.is,
     )
@@ -37,9 +37,9 @@ returns-in-Refused-scope c =
 pub returns-in-Is-scope : goal.returns-in-Is-scope
 unfolding shown_code_size
 returns-in-Is-scope c =
-    let v = c.args.v.now in
+    let v = c.args.shown.now in
     rw (
-      le-leb _ _ c.if-v-lt-MIN_CODE_WITH_SCOPE_SIZE.false,
+      le-leb _ _ c.if-shown-lt-MIN_CODE_WITH_SCOPE_SIZE.false,
       rest_answered said_length string_size v 4 c.read_len.ensures c.in-Is.is,
       answered said_length c.scope.ensures c.in-Is-scope.is,
     )
