@@ -336,14 +336,14 @@ pub fn of_shown(s: Shown) -> ShownNumbers
         Shown::Wrote {
             element,
             size,
-            second,
+            second: behind,
         } => ShownNumbers {
             number: 0,
             tag: element.tag,
             place: element.place,
             length: size,
-            offset2: second.offset,
-            size2: second.size,
+            offset2: behind.offset,
+            size2: behind.size,
         },
         Shown::Refused { number, place } => ShownNumbers {
             number: number as u32,

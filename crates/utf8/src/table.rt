@@ -99,18 +99,18 @@ pub fn some_characters(v: &[u8]) -> Chunk
     let classes = CLASSES;
     let moves = MOVES;
     let mut valid = 0;
-    let mut state = 0;
+    let mut left = 0;
     let mut i = 0;
     while i < v.len() {
         if STRETCH <= valid {
             return Chunk { valid, invalid: 0 };
         }
-        state = after(&classes, &moves, state, v[i]);
-        if state % 64 == NO_CHARACTER {
+        left = after(&classes, &moves, left, v[i]);
+        if left % 64 == NO_CHARACTER {
             return broken(valid, i);
         }
         i += 1;
-        if state % 64 == 0 {
+        if left % 64 == 0 {
             valid = i;
         }
     }

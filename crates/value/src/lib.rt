@@ -156,7 +156,11 @@ fn db_pointer(s: &[u8], framed: Part) -> Parsed
     if !inside::is_text(s, namespace) {
         return Parsed::Refused(6);
     }
-    let id = last_twelve(framed);
+    let mut front = 0;
+    if 12 < framed.size {
+        front = framed.size - 12;
+    }
+    let id = trim(framed, front, 0);
     Parsed::Is(Value::DbPointer { namespace, id })
 }
 

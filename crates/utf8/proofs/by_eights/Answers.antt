@@ -8,7 +8,7 @@ use Rattle.utf8.proofs.by_eights.Goals as goal
 
 pub loop-i-preserved : goal.loop-i-preserved
 loop-i-preserved c =
-    let e = sym c.ascii.ensures ∙ not-false _ c.if-not-ascii.false-raw in
+    let e = sym c.ascii.ensures ∙ c.if-not-ascii.false in
     at_block 8 8 (omega arith) c.loop-i.invariant (omega arith) e
 
 pub returns-then-ends_in_ascii : goal.returns-then-ends_in_ascii

@@ -6,19 +6,19 @@ use Rattle.value.proofs.text.Goals as goal
 
 pub returns-then-not-is_text : goal.returns-then-not-is_text
 unfolding paper.text
-returns-then-not-is_text c = rw (← c.trim-text.ensures, sym c.is_text.ensures ∙ not-true _ c.if-not-is_text.true-raw)
+returns-then-not-is_text c = rw (← c.trim-text.ensures, sym c.is_text.ensures ∙ c.if-not-is_text.true)
 
 pub returns-then-tag-eq-CODE : goal.returns-then-tag-eq-CODE
 unfolding paper.text
 returns-then-tag-eq-CODE c =
-    rw (← c.trim-text.ensures, sym c.is_text.ensures ∙ not-false _ c.if-not-is_text.false-raw, eq-eqb _ _ c.if-tag-eq-CODE.true)
+    rw (← c.trim-text.ensures, sym c.is_text.ensures ∙ c.if-not-is_text.false, eq-eqb _ _ c.if-tag-eq-CODE.true)
 
 pub returns-then-tag-eq-SYMBOL : goal.returns-then-tag-eq-SYMBOL
 unfolding paper.text
 returns-then-tag-eq-SYMBOL c =
     rw (
       ← c.trim-text.ensures,
-      sym c.is_text.ensures ∙ not-false _ c.if-not-is_text.false-raw,
+      sym c.is_text.ensures ∙ c.if-not-is_text.false,
       ne_eqb _ _ c.if-tag-eq-CODE.false,
       eq-eqb _ _ c.if-tag-eq-SYMBOL.true,
     )
@@ -28,7 +28,7 @@ unfolding paper.text
 returns c =
     rw (
       ← c.trim-text.ensures,
-      sym c.is_text.ensures ∙ not-false _ c.if-not-is_text.false-raw,
+      sym c.is_text.ensures ∙ c.if-not-is_text.false,
       ne_eqb _ _ c.if-tag-eq-CODE.false,
       ne_eqb _ _ c.if-tag-eq-SYMBOL.false,
     )

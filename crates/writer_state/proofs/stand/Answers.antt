@@ -7,13 +7,13 @@ use Rattle.writer_state.proofs.stand.Goals as goal
 
 pub returns-then-not-stands : goal.returns-then-not-stands
 returns-then-not-stands c =
-    sym (stand_refused _ _ _ (omega arith) (sym c.stands.ensures ∙ not-true _ c.if-not-stands.true-raw)) ∙ c.loop-i.invariant.1
+    sym (stand_refused _ _ _ (omega arith) (sym c.stands.ensures ∙ c.if-not-stands.true)) ∙ c.loop-i.invariant.1
 
 pub loop-i-preserved : goal.loop-i-preserved
 loop-i-preserved c =
     let l = c.loop-i in (
       omega arith,
-      sym (stand_onward _ _ _ (omega arith) (sym c.stands.ensures ∙ not-false _ c.if-not-stands.false-raw)) ∙
+      sym (stand_onward _ _ _ (omega arith) (sym c.stands.ensures ∙ c.if-not-stands.false)) ∙
           l.invariant.1,
     )
 

@@ -8,5 +8,5 @@ use Rattle.utf8.proofs.chunks.ascii_len.Goals as goal
 
 pub loop-i-preserved : goal.loop-i-preserved
 loop-i-preserved c =
-    let e = sym c.ascii.ensures ∙ not-false _ c.if-not-ascii.false-raw in
+    let e = sym c.ascii.ensures ∙ c.if-not-ascii.false in
     front_ascii 32 c.loop-i.invariant (omega arith) e

@@ -11,24 +11,24 @@ pub loop-i-init : goal.loop-i-init
 unfolding rows
 loop-i-init c = judging_start (record { computed = refl })
 
-pub after-state-requires : goal.after-state-requires
-after-state-requires c = class_few _ c.loop-i.invariant.right (c.shared_slice_known-in-loop-i-1.given _).fits
+pub after-left-requires : goal.after-left-requires
+after-left-requires c = class_few _ c.loop-i.invariant.right (c.shared_slice_known-in-loop-i-1.given _).fits
 
-pub returns-then-state-eq-NO_CHARACTER : goal.returns-then-state-eq-NO_CHARACTER
-returns-then-state-eq-NO_CHARACTER c =
+pub returns-then-left-eq-NO_CHARACTER : goal.returns-then-left-eq-NO_CHARACTER
+returns-then-left-eq-NO_CHARACTER c =
     let j = c.loop-i.invariant in
-    rw c.broken.ensures (judged_bad (judge j (omega arith) (c.shared_slice_known-in-loop-i-1.given _).fits c.after-state.ensures) c.if-state-eq-NO_CHARACTER.true)
+    rw c.broken.ensures (judged_bad (judge j (omega arith) (c.shared_slice_known-in-loop-i-1.given _).fits c.after-left.ensures) c.if-left-eq-NO_CHARACTER.true)
 
-pub loop-i-preserved-then-state-eq0 : goal.loop-i-preserved-then-state-eq0
-loop-i-preserved-then-state-eq0 c =
+pub loop-i-preserved-then-left-eq0 : goal.loop-i-preserved-then-left-eq0
+loop-i-preserved-then-left-eq0 c =
     let j = c.loop-i.invariant in
-    judged_whole (judge j (omega arith) (c.shared_slice_known-in-loop-i-1.given _).fits c.after-state.ensures) _ _ j.right c.if-state-eq0.true
+    judged_whole (judge j (omega arith) (c.shared_slice_known-in-loop-i-1.given _).fits c.after-left.ensures) _ _ j.right c.if-left-eq0.true
 
 pub loop-i-preserved : goal.loop-i-preserved
 loop-i-preserved c =
     let j = c.loop-i.invariant in
-    judged_more (judge j (omega arith) (c.shared_slice_known-in-loop-i-1.given _).fits c.after-state.ensures) _ _ j.right
-    c.if-state-eq-NO_CHARACTER.false c.if-state-eq0.false
+    judged_more (judge j (omega arith) (c.shared_slice_known-in-loop-i-1.given _).fits c.after-left.ensures) _ _ j.right
+    c.if-left-eq-NO_CHARACTER.false c.if-left-eq0.false
 
 pub returns : goal.returns
 returns c = judging_end c.loop-i.invariant (omega arith)

@@ -23,7 +23,7 @@ returns-then-not-is_text c =
     rw (
       le-leb _ _ c.if-v-lt-MIN_CODE_WITH_SCOPE_SIZE.false,
       rest_answered said_length string_size v 4 c.read_len.ensures c.in-Is.is,
-      sym c.is_text.ensures ∙ not-true _ c.if-not-is_text.true-raw,
+      sym c.is_text.ensures ∙ c.if-not-is_text.true,
     )
 
 pub overflow_add-n : goal.overflow_add-n
@@ -46,7 +46,7 @@ returns-in-Refused-scope c =
     rw (
       le-leb _ _ c.if-v-lt-MIN_CODE_WITH_SCOPE_SIZE.false,
       rest_answered said_length string_size v 4 c.read_len.ensures c.in-Is.is,
-      sym c.is_text.ensures ∙ not-false _ c.if-not-is_text.false-raw,
+      sym c.is_text.ensures ∙ c.if-not-is_text.false,
       answered said_length c.scope.ensures c.in-Refused-scope.is,
     )
 
@@ -57,6 +57,6 @@ returns-in-Is-scope c =
     rw (
       le-leb _ _ c.if-v-lt-MIN_CODE_WITH_SCOPE_SIZE.false,
       rest_answered said_length string_size v 4 c.read_len.ensures c.in-Is.is,
-      sym c.is_text.ensures ∙ not-false _ c.if-not-is_text.false-raw,
+      sym c.is_text.ensures ∙ c.if-not-is_text.false,
       answered said_length c.scope.ensures c.in-Is-scope.is,
     )
