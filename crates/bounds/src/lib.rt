@@ -2,7 +2,6 @@
 // joining", request 1).
 #![tactic(auto)]
 
-
 // The largest length that a length field, an int32, can say.
 pub const MAX_LEN: usize = 2147483647;
 

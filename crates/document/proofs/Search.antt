@@ -1,24 +1,16 @@
 -- The search for a key, begun at an offset: what a step there says of the whole search (RULES.md, "Lookup").
 use Prim.Native.Nat.{ℕ, ◌+◌, ◌-◌}
-use mathlib.Core.Path.{◌≡◌, refl, sym, ap, ◌∙◌}
+use mathlib.Core.Path.{◌≡◌, sym, ◌∙◌}
 use mathlib.Core.List.{List}
 use mathlib.Core.Bool.{true, false}
-use lib.ListN.{length, take, drop}
-use native.Mathlib.Omega.{arith}
+use lib.ListN.{take, drop}
 use Rattle.bson.specs.Answer.{gives, refuses}
 use Rattle.bson.specs.Cstring.{Limit}
 use Rattle.bson.specs.Bytes.{Part, same}
 use Rattle.bson.specs.Step.{Element, past, cursor, yield, end, step_under}
 use Rattle.bson.specs.Lookup.{find_under}
-use Rattle.laws.specs.FramedAt.{FramedAt}
-use Rattle.laws.proofs.AnswerLaws.{answered}
 use Rattle.laws.proofs.BytesLaws.{slice_part}
-use Rattle.laws.proofs.Common.{rest_part}
-use Rattle.laws.proofs.StepLaws.{step_yields}
 use Rattle.laws.proofs.LookupLaws.{search_from, search_ends, search_refused, search_found, search_onward}
-use Rattle.cstr.specs.Said.{limit_of}
-use Rattle.iter.specs.Said.{said_element, said_sizes}
-use Rattle.iter.proofs.Sized.{made_yields}
 
 -- the bytes from a key's start up to its zero
 abbrev pub up_to_zero : List ℕ → Part → List ℕ

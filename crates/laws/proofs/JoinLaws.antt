@@ -17,7 +17,7 @@ use Rattle.bson.specs.Grammar.{bytes32, document_of}
 use Rattle.bson.specs.Output.{Output, output, put, put_texts}
 use Rattle.bson.specs.Output as Texts
 use Rattle.bson.specs.Writer.{room}
-use Rattle.bson.specs.Join.{body, both, wrote, refused, Joined, joined, passing, size_of_both, both_put, join}
+use Rattle.bson.specs.Join.{body, both, wrote, refused, Joined, passing, size_of_both, both_put, join}
 use Rattle.laws.proofs.AnswerLaws.{never, gives_injective, unless_gives}
 use Rattle.laws.proofs.StepLaws.{admitted_says}
 use Rattle.laws.proofs.AdvanceLaws.{step_unadmitted}

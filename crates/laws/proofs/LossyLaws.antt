@@ -1,12 +1,12 @@
 -- What follows from the definition of a text that is shown with its damage: UTF-8 comes through unchanged, what is shown is UTF-8, and it
 -- has at most three times the bytes (RULES.md, request 4).
-use Prim.Native.Nat.{ℕ, zero, suc, ◌+◌, ◌-◌, ◌*◌, ◌<◌, ◌≤◌}
+use Prim.Native.Nat.{ℕ, zero, suc, ◌+◌, ◌*◌, ◌<◌, ◌≤◌}
 use mathlib.Core.Path.{◌≡◌, refl, sym, ap, ◌∙◌}
 use mathlib.Core.List.{List, [], ◌∷◌, ◌++◌, append_assoc, append-nil}
-use mathlib.Core.Bool.{Bool, true, false, cond}
+use mathlib.Core.Bool.{true, false, cond}
 use native.Mathlib.Omega.{arith}
 use native.Mathlib.Nat.{not-suc-le-zero}
-use lib.ListN.{length, take, drop, length-append, length-take, length-drop, take-append-drop}
+use lib.ListN.{length, take, drop, length-append, length-take, length-drop}
 use lib.Seq.{take-add, drop-drop, drop-append-le, take-append_seam, drop-append_seam}
 use Rattle.bson.specs.Utf8.{Range, in_range, rows, Left, bad, ranges, begin, next, read, whole, utf8}
 use Rattle.bson.specs.Lossy.{Piece, piece, follow, piece_by, piece_of, pieces_for, pieces, replacement, shown, lossy}

@@ -1,19 +1,19 @@
 -- The order of the tests, as the code meets it: the step, the text of the element there, then the room (RULES.md, request 4).
-use Prim.Native.Nat.{ℕ, ◌+◌, ◌≤◌}
-use mathlib.Core.Path.{◌≡◌, refl, sym, ap, ◌∙◌}
+use Prim.Native.Nat.{ℕ}
+use mathlib.Core.Path.{◌≡◌, ap, ◌∙◌}
 use mathlib.Core.List.{List}
 use mathlib.Core.Bool.{true, false}
 use native.Mathlib.Nat.{zero-add}
 use lib.Dec.{leb}
 use lib.ListN.{length}
 use borrow.Author.Tests.{leb-true}
-use Rattle.bson.specs.Answer.{Answer, gives, refuses, then}
+use Rattle.bson.specs.Answer.{gives, refuses}
 use Rattle.bson.specs.Bytes.{bytes}
 use Rattle.bson.specs.Cstring.{Limit}
 use Rattle.bson.specs.Step.{Element}
 use Rattle.bson.specs.Value.{element_at_under}
 use Rattle.bson.specs.Lossy.{lossy, Text, text_in, Leaves, leaves, put_lossy, Shown, value_lossy, read_lossy_under}
-use Rattle.bson.specs.Output.{Output, output, put, put_text}
+use Rattle.bson.specs.Output.{Output, output, put_text}
 use Rattle.laws.proofs.OutputLaws.{text_fits}
 use Rattle.part.specs.Said.{said_length}
 use Rattle.part.specs.declared.Length.{Length}

@@ -1,23 +1,23 @@
 -- A text that is shown, chunk by chunk: its size against a room, and what is put into the buffer (RULES.md, request 4).
-use Prim.Native.Nat.{ℕ, zero, suc, ◌+◌, ◌-◌, ◌*◌, ◌/◌, ◌<◌, ◌≤◌}
+use Prim.Native.Nat.{ℕ, zero, suc, ◌+◌, ◌-◌, ◌/◌, ◌<◌, ◌≤◌}
 use mathlib.Core.Path.{◌≡◌, refl, sym, ap, ◌∙◌}
 use mathlib.Core.List.{List, [], ◌∷◌, ◌++◌, append_assoc, append-nil}
-use mathlib.Core.Bool.{Bool, true, false}
+use mathlib.Core.Bool.{true, false}
 use native.Mathlib.Nat.{not-suc-le-zero, div-add-mod'}
 use native.Mathlib.Omega.{arith}
 use lib.Dec.{leb}
 use lib.ListN.{length, take, drop, length-append, length-drop, drop_of_length-le}
 use lib.Seq.{take-add, drop-drop, length-take-le}
 use borrow.Author.Tests.{le-leb, lt-leb, leb-true, leb-false}
-use Rattle.bson.specs.Answer.{Answer, gives, refuses, unless}
+use Rattle.bson.specs.Answer.{gives, refuses, unless}
 use Rattle.bson.specs.Utf8.{rows, begin}
 use Rattle.bson.specs.Lossy.{piece, piece_of, pieces_for, pieces, replacement, lossy}
-use Rattle.bson.specs.Output.{Output, output, put_text, put_texts, joined}
+use Rattle.bson.specs.Output.{Output, output, put_text}
 use Rattle.laws.proofs.AnswerLaws.{never, unless_gives, gives_injective}
 use Rattle.laws.proofs.Common.{split, rest_part}
 use Rattle.laws.proofs.LossyLaws.{piece_some, piece_within, lossy_nil, lossy_cons, lossy_size}
 use Rattle.laws.proofs.OutputLaws.{length_put, nothing_put, text_fits, texts_fit}
-use Rattle.utf8.specs.Chunks.{chunk, behind, chunk_of}
+use Rattle.utf8.specs.Chunks.{behind, chunk_of}
 use Rattle.utf8.specs.declared.chunks.Chunk.{Chunk}
 use Rattle.utf8.proofs.ChunkLaws.{piece_bad, piece_good}
 use Rattle.lossy.specs.Marks.{mark, size_shown}

@@ -8,7 +8,6 @@ use Rattle.bson.specs.Step as step
 use Rattle.bson.specs.Value as paper
 use Rattle.laws.proofs.Determined.{Determined, DeterminedPart, injective_by, unsaid_at}
 use Rattle.iter.proofs.Determined.{unsaid_element}
-use Rattle.part.specs.declared.Part.{Part}
 use Rattle.part.specs.Said.{said_part}
 use Rattle.part.proofs.Determined.{unsaid_part}
 use Rattle.value.proofs.Determined.{unsaid_value, value_again}

@@ -10,10 +10,10 @@ use lib.Dec.{ltb}
 use lib.ListN.{length, get_or, drop, length-drop, drop_of_length-le}
 use lib.Seq.{get_or-drop}
 use Rattle.bson.specs.Utf8.{Left, bad, ranges, next, whole}
-use Rattle.bson.specs.Lossy.{piece, follow}
+use Rattle.bson.specs.Lossy.{piece}
 use Rattle.laws.proofs.Common.{split}
 use Rattle.laws.proofs.LossyLaws.{whole_is}
-use Rattle.utf8.specs.Chunks.{chunk, behind, chunk_of, at_least_one, Front, Begins}
+use Rattle.utf8.specs.Chunks.{chunk, at_least_one, Front, Begins}
 use Rattle.utf8.specs.Moves.{move_of}
 use Rattle.utf8.proofs.ChunkLaws.{front_none, front_more, front_bad, piece_in, piece_bad, piece_good, at_least_one_law}
 use Rattle.utf8.proofs.ChunkLaws.{Begun, Onward, begun_onward}

@@ -1,5 +1,4 @@
 -- `cstr::equal` meets its contract: the bytes passed are equal, and the rest decides.
-use Prim.Native.Nat.{◌-◌}
 use mathlib.Core.Path.{sym}
 use Rattle.laws.proofs.BytesLaws.{same_length}
 use Rattle.cstr.proofs.equal.Goals as goal

@@ -1,5 +1,4 @@
 -- `cstr::is_plain` meets its contract: the bytes passed are plain, and what is left of the text decides.
-use Prim.Native.Nat.{◌-◌}
 use mathlib.Core.Path.{sym, ◌∙◌}
 use borrow.Author.Tests.{ltb-false}
 use Rattle.cstr.proofs.Plain.{plain_on}

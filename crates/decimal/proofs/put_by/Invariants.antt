@@ -1,5 +1,5 @@
 -- `decimal::put_by` goes round: what is left to write on the present buffer is the whole on the first.
-use Prim.Native.Nat.{suc, ◌+◌, ◌-◌, ◌^◌, ◌<◌}
+use Prim.Native.Nat.{suc, ◌+◌, ◌^◌, ◌<◌}
 use mathlib.Core.Path.{◌≡◌}
 use lib.ListN.{length}
 use Rattle.bson.specs.Decimal.{digits}

@@ -1,5 +1,4 @@
 -- `decimal::width_of` meets its contract: at every turn the number has k digits or more.
-use Prim.Native.Nat.{◌-◌}
 use native.Mathlib.Omega.{arith}
 use Rattle.laws.proofs.DecimalLaws.{width_positive, width_small, width_above, width_is}
 use Rattle.decimal.proofs.width_of.Goals as goal

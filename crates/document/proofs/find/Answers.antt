@@ -1,7 +1,5 @@
 -- `document::find` meets its contract: the search from each offset is the whole search.
-use Prim.Native.Nat.{◌-◌}
 use mathlib.Core.Path.{refl, sym, ap, ◌∙◌}
-use mathlib.Core.Bool.{true, false}
 use lib.ListN.{length}
 use native.Mathlib.Omega.{arith}
 use Rattle.bson.specs.Lookup.{find_under}

@@ -1,13 +1,9 @@
 -- `iter::advance` meets its contract: the element of the sizes, and the cursor behind it.
-use mathlib.Core.Path.{◌≡◌, refl}
-use mathlib.Core.Bool.{false}
+use mathlib.Core.Path.{refl}
 use native.Mathlib.Omega.{arith}
-use Rattle.bson.specs.Answer.{gives}
-use Rattle.bson.specs.Step.{cursor, yield, step_under}
 use Rattle.laws.proofs.AnswerLaws.{answered}
 use Rattle.laws.proofs.StepLaws.{step_yields}
-use Rattle.cstr.specs.Said.{limit_of}
-use Rattle.iter.specs.Said.{said_element, said_sizes}
+use Rattle.iter.specs.Said.{said_sizes}
 use Rattle.iter.proofs.Sized.{made_yields}
 use Rattle.iter.proofs.advance.Goals as goal
 

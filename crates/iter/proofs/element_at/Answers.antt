@@ -11,7 +11,6 @@ use Rattle.laws.proofs.Common.{rest_part}
 use Rattle.laws.proofs.CstringLaws.{cstring_inside}
 use Rattle.laws.proofs.AnswerLaws.{answered}
 use Rattle.part.specs.Said.{said_length}
-use Rattle.cstr.specs.Said.{limit_of}
 use Rattle.iter.specs.Said.{sized}
 use native.Mathlib.Omega.{arith}
 use Rattle.iter.proofs.element_at.Goals as goal

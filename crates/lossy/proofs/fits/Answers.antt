@@ -1,5 +1,4 @@
 -- `lossy::fits` meets its contract: at every turn the rest fits what is left of the room exactly where the text fits the room.
-use Prim.Native.Nat.{◌-◌}
 use native.Mathlib.Omega.{arith}
 use Rattle.laws.proofs.AnswerLaws.{answered}
 use Rattle.part.specs.Said.{said_length}

@@ -1,5 +1,4 @@
 -- `lossy::put` meets its contract: at every turn the rest put behind what is put is the whole text put.
-use Prim.Native.Nat.{◌-◌}
 use native.Mathlib.Omega.{arith}
 use Rattle.lossy.proofs.ShownLaws.{chunk_inside, chunk_onward, putting_chunk, putting_end, putting_more}
 use Rattle.lossy.proofs.put.Goals as goal

@@ -1,5 +1,4 @@
 -- `path::is_short` meets its contract: a path of up to 200 bytes has no more zeros than that, and those of another are counted.
-use Prim.Native.Nat.{◌-◌}
 use mathlib.Core.Path.{sym}
 use native.Mathlib.Omega.{arith}
 use lib.ListN.{length}

@@ -9,7 +9,6 @@ use Rattle.bson.specs.Cstring.{Limit, cstring_under}
 use Rattle.bson.specs.Framing.{pattern_options_under}
 use Rattle.laws.proofs.Common.{rest_part}
 use Rattle.part.specs.Said.{said_length}
-use Rattle.cstr.specs.Said.{limit_of}
 use native.Mathlib.Omega.{arith}
 use Rattle.laws.proofs.AnswerLaws.{answered}
 use Rattle.laws.proofs.CstringLaws.{cstring_inside}

@@ -1,5 +1,4 @@
 -- `report::put_elements` meets its contract: the lines from each offset on the present buffer are all on the first.
-use Prim.Native.Nat.{◌-◌}
 use mathlib.Core.Path.{ap, sym, ◌∙◌}
 use native.Mathlib.Omega.{arith}
 use Rattle.laws.proofs.AnswerLaws.{answered}

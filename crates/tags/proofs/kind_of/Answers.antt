@@ -1,5 +1,4 @@
 -- `tags::kind_of` meets its contract: above 13 by the two rows there, else the rows from i on answer for the table.
-use Prim.Native.Nat.{◌-◌}
 use mathlib.Core.Path.{refl}
 use native.Mathlib.Omega.{arith}
 use Rattle.bson.specs.Tags.{tags}

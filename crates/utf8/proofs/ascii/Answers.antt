@@ -1,5 +1,4 @@
 -- `utf8::ascii` meets its contract: `all` stands for the bytes before j.
-use Prim.Native.Nat.{◌-◌}
 use native.Mathlib.Omega.{arith}
 use Rattle.utf8.proofs.AsciiLaws.{seen_more}
 use Rattle.utf8.proofs.ascii.Goals as goal

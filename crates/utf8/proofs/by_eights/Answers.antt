@@ -1,8 +1,6 @@
 -- `utf8::by_eights` meets its contract: the blocks before i are ASCII, so the bytes from i on decide.
-use Prim.Native.Nat.{◌-◌}
 use mathlib.Core.Path.{sym, ◌∙◌}
 use native.Mathlib.Omega.{arith}
-use borrow.Author.Tests.{not-false}
 use Rattle.utf8.proofs.TextLaws.{at_block, at_ascii}
 use Rattle.utf8.proofs.by_eights.Goals as goal
 

@@ -1,6 +1,6 @@
 -- `value::text` meets its contract: each way out by the tests that led there.
 use mathlib.Core.Path.{sym, ◌∙◌}
-use borrow.Author.Tests.{eq-eqb, ne_eqb, not-true, not-false}
+use borrow.Author.Tests.{eq-eqb, ne_eqb}
 use Rattle.bson.specs.Value as paper
 use Rattle.value.proofs.text.Goals as goal
 

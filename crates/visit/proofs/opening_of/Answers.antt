@@ -1,7 +1,5 @@
 -- `visit::opening_of` meets its contract: case by case.
-use Prim.Native.Nat.{ℕ}
 use mathlib.Core.Path.{◌≡◌, refl}
-use mathlib.Core.List.{List, [], ◌∷◌}
 use Rattle.part.specs.declared.Part.{Part}
 use Rattle.bson.specs.Level.{closed, opening}
 use Rattle.value.specs.Said.{said_value}

@@ -1,8 +1,7 @@
 -- `whole::walk_document` and `whole::open_value`, which call each other, meet their contracts: the depth left plus the bytes left fall
 -- (RULES.md, "Where each language form belongs").
 use mathlib.Core.Path.{◌≡◌, refl, sym, ap, ◌∙◌}
-use mathlib.Core.Bool.{true, false, ◌&&◌}
-use mathlib.Core.Logic.{⊎_elim}
+use mathlib.Core.Bool.{false}
 use native.Mathlib.Omega.{arith}
 use lib.ListN.{length}
 use Rattle.bson.specs.Answer.{gives}
@@ -26,9 +25,9 @@ use Rattle.whole.specs.Said.{said}
 use Rattle.visit.specs.declared.Visited.TheVariants.{Is}
 use Rattle.whole.proofs.Walk.{yields_placed, opened_refused, opened_closed, opened_inside, opened_keyed}
 use Rattle.whole.proofs.Walk.{opened_bad_key, Asked, asked_passes, not_asked, Enters, enters}
-use Rattle.whole.proofs.Walk.{visited_is, visited_refused, LeftFrom, left_first, left_ends, left_refused, left_value_refused}
+use Rattle.whole.proofs.Walk.{visited_is, visited_refused, left_first, left_ends, left_refused, left_value_refused}
 use Rattle.whole.proofs.Walk.{left_onward}
-use Prim.Native.Nat.{ℕ, suc, ◌+◌, ◌-◌, ◌≤◌, ◌<◌}
+use Prim.Native.Nat.{suc, ◌+◌, ◌<◌}
 use Rattle.whole.proofs.+open_value_walk_document.Goals as goal
 use Rattle.whole.proofs.+open_value_walk_document.Goals.{walk_document-then-keyed+then-key_passes, walk_document-else-keyed}
 

@@ -1,7 +1,6 @@
 -- `writer_state::stand` meets its contract: each turn tests one open document and leaves those around it.
 use mathlib.Core.Path.{sym, ◌∙◌}
 use native.Mathlib.Omega.{arith}
-use borrow.Author.Tests.{not-true, not-false}
 use Rattle.writer_state.proofs.Tests.{stand_refused, stand_onward, stand_last}
 use Rattle.writer_state.proofs.stand.Goals as goal
 

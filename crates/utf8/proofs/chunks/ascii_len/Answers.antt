@@ -1,8 +1,6 @@
 -- `utf8::chunks::ascii_len` meets its contract: the blocks before i are ASCII, each byte of them a character.
-use Prim.Native.Nat.{◌-◌}
 use mathlib.Core.Path.{sym, ◌∙◌}
 use native.Mathlib.Omega.{arith}
-use borrow.Author.Tests.{not-false}
 use Rattle.utf8.proofs.ChunkLaws.{front_ascii}
 use Rattle.utf8.proofs.chunks.ascii_len.Goals as goal
 

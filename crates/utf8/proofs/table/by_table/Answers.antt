@@ -1,5 +1,4 @@
 -- `utf8::table::by_table` meets its contract: at every turn the bytes from i on decide, with what is left in the state.
-use Prim.Native.Nat.{◌-◌}
 use mathlib.Core.Path.{refl}
 use native.Mathlib.Omega.{arith}
 use Rattle.bson.specs.Utf8.{rows}

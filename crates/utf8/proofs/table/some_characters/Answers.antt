@@ -1,5 +1,4 @@
 -- `utf8::table::some_characters` meets its contract: whole characters before `valid`, and the state stands for the bytes from there to i.
-use Prim.Native.Nat.{◌-◌}
 use mathlib.Core.Path.{refl}
 use native.Mathlib.Omega.{arith}
 use Rattle.bson.specs.Utf8.{rows}

@@ -1,5 +1,4 @@
 -- `utf8::window::by_window` meets its contract: the bytes before j are judged, and the last three say what is left.
-use Prim.Native.Nat.{◌-◌}
 use native.Mathlib.Omega.{arith}
 use Rattle.utf8.proofs.WindowLaws.{went_start, went_turn, went_end}
 use Rattle.utf8.proofs.window.by_window.Goals as goal

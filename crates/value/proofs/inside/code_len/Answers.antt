@@ -1,7 +1,7 @@
 -- `value::inside::code_len` meets its contract: each way out by the tests and the answers that led there.
 use mathlib.Core.Path.{sym, ◌∙◌}
 use native.Mathlib.Omega.{arith}
-use borrow.Author.Tests.{le-leb, lt-leb, not-true, not-false}
+use borrow.Author.Tests.{le-leb, lt-leb}
 use Rattle.bson.specs.Framing.{string_size}
 use Rattle.laws.proofs.AnswerLaws.{answered, rest_answered}
 use Rattle.laws.proofs.FramingLaws.{string_is}

@@ -1,7 +1,7 @@
 -- `value::texts::text_by` meets its contract: how the tag's value is sized says which text it has.
 use Prim.Native.Nat.{ℕ}
 use mathlib.Core.Path.{◌≡◌, refl, ap, ◌∙◌}
-use mathlib.Core.List.{[], List, ◌∷◌}
+use mathlib.Core.List.{List}
 use native.Mathlib.Omega.{arith}
 use lib.ListN.{length}
 use Rattle.bson.specs.Answer.{refuses, then}
