@@ -47,11 +47,13 @@ def said(paths):
 
 
 def crates():
-    return [line.split(":")[0] for line in text(ROOT / "crates.txt").splitlines() if re.match(r"\w+:", line)]
+    """By name, whether it is a static library."""
+    return {name: bool(static) for name, static in re.findall(r"^(\w+)( staticlib)?:", text(ROOT / "crates.txt"), re.M)}
 
 
 def is_library(path):
-    return (path.parents[1] / "src/lib.rt").exists()
+    """Whether another crate can name this one."""
+    return (path.parents[1] / "src/lib.rt").exists() and not crates().get(path.parts[-3])
 
 
 def is_private(path):
@@ -125,7 +127,7 @@ def row(*cells):
 def proved():
     """What is proved, for the README."""
     words = (
-        f"{len(crates())} crates with {len(functions())} functions, {len(public())} of them public in libraries and {len(exported())} of these "
+        f"{len(crates())} crates with {len(functions())} functions, {len(public())} of them public in libraries and {len(exported())} "
         f"exported to C; {len(edits())} wrong edits are refused; {documents():,} documents with their answers, and {questions():,} questions, are replayed; "
         f"{len(variants())} wrong variants of the library are at hand, each to be caught."
     )
@@ -141,7 +143,7 @@ def counts():
             row("crates", len(crates())),
             row("functions", len(functions())),
             row("of these public in libraries", len(public())),
-            row("of these exported to C", len(exported())),
+            row("others, exported to C", len(exported())),
             row("lines of code that are not blank", lines(found("*/src/*.rt"))),
             row("lines of definitions that are not blank", lines(found("*/specs/*.antt"))),
             row("lines of proof that are not blank", lines(found("*/proofs/**/*.antt"))),

@@ -39,7 +39,8 @@ def read(text):
         if comment.startswith("----"):
             label, comment = comment.strip("- "), ""
         elif code:
-            crate, _, named = code.partition(":")
+            line, _, named = code.partition(":")
+            crate = line.split()[0]
             group[crate], names[crate], what[crate] = label, named.split(), comment or above
         above = "" if code else comment
     return group, names, what
@@ -321,7 +322,7 @@ def notes(names, apart):
     yield "Along a line the crate that stands higher leans on the one that stands lower; at a dot all above it lean on all below it."
     yield "What a crate names besides, and leans on through another crate too, is not drawn again."
     yield f"Nor are {listed(HUBS)}, which each crate names but for those with a dashed frame: {listed(through)} lean on them through others,"
-    yield f"{listed(neither)} on neither. {listed(outside)} are the toolchain's: {listed(outward)} name them."
+    yield f"{listed(neither)} on neither." + (f" {listed(outside)} are the toolchain's: {listed(outward)} name them." if outside else "")
 
 
 def drawing(text):

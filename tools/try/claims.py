@@ -8,6 +8,7 @@ theorems of the row's crate, one for each function of the row, and under "Refuse
 
 usage: tools/try/claims.py
 """
+import os
 import re
 import sys
 from collections import Counter, namedtuple
@@ -18,7 +19,7 @@ from edits import named
 
 ROOT = Path(__file__).resolve().parents[2]
 # names that are not the repository's: of the language, its tools and its library, of C, and of the Rust; and a line that a program prints
-OUTSIDE = {"&[u8]", "ensures", "requires", "rt ci", "leb", "getD", "memset", "snprintf", "read", "write", "TooLongCStr", "max_cstr_parse_len", "unread"}
+OUTSIDE = {"&[u8]", "ensures", "requires", "rt ci", "leb", "get_or", "memset", "snprintf", "read", "write", "TooLongCStr", "max_cstr_parse_len", "unread"}
 KIT = re.compile(r"rattle-kit-\S+ logic [0-9a-f]+")
 FOLDERS = r"\.ci|bench|c|crates|diff|docs|include|samples|tools"
 ITEM = re.compile(rf"`([^`]+)`|\b((?:[\w+]+/)+[\w+]+\.\w+|[A-Z]\w+\.antt|(?:{FOLDERS})/[\w/]+\w)")
@@ -26,12 +27,20 @@ ITEM = re.compile(rf"`([^`]+)`|\b((?:[\w+]+/)+[\w+]+\.\w+|[A-Z]\w+\.antt|(?:{FOL
 JOINT = re.compile(r"[\s,()]*(?:and|of|each from)?[\s,()]*")
 DECLARED = re.compile(r"^[ ]*(?:(?:pub|abbrev|unfoldable) )*(?!let |--|use )((?:[^\s(){}:=]+ )+)(?:[({][^:\n]*:.*)?: ", re.M)
 
+# folders of what is built
+MADE = {".git", "target", "out", "build", "__pycache__"}
+
 Claim = namedtuple("Claim", "kind name where")  # where: a path, a crate, or None for anywhere
 
 
 @cache
 def files():
-    return [path.relative_to(ROOT).as_posix() for path in ROOT.rglob("*") if path.parts[len(ROOT.parts)] not in ("target", ".git")]
+    """The files and folders, without those of what is built."""
+    found = []
+    for folder, folders, names in os.walk(ROOT):
+        folders[:] = [name for name in folders if name not in MADE]
+        found += [Path(folder, name).relative_to(ROOT).as_posix() for name in folders + names]
+    return found
 
 
 @cache
@@ -143,7 +152,7 @@ def of_text(text, cell=False):
 
 
 def of_item(name, bare, path, crate):
-    if bare or re.match(rf"(?:{FOLDERS})/|\w+\.edit$", name):
+    if bare or re.match(rf"(?:{FOLDERS})/|\w+\.(?:edit|antt)$", name):
         yield Claim("path", name.split()[0], None)
     elif name.startswith("…"):
         yield Claim("ending", name[1:], None)
@@ -153,7 +162,7 @@ def of_item(name, bare, path, crate):
         yield Claim("edit", name, crate)
     elif name in OUTSIDE:
         yield Claim("any", name, None)
-    elif not KIT.fullmatch(name) and not name.startswith("-"):
+    elif not KIT.fullmatch(name) and not name.startswith(("-", "_")):
         first, *others = expression(name)
         yield Claim("declared", first, path) if path else Claim("any", first, None)
         yield from (Claim("any", word, None) for word in others)
@@ -187,8 +196,8 @@ def of_row(columns, cells):
             claims = [*of_functions(cell)]
             functions = [claim for claim in claims if claim.kind == "function"]
         elif column == "Determined by" and functions:
-            claims = [Claim("theorem", name, crate) for name in re.findall(r"`([^`-][^`]*)`", cell)]
-            claims += [Claim("theorem", f.name.split("::")[-1].replace("_", "-") + "-determined", f.name.split("::")[0]) for f in functions]
+            claims = [Claim("theorem", name, crate) for name in re.findall(r"`([^`_][^`]*)`", cell)]
+            claims += [Claim("theorem", f.name.split("::")[-1] + "_determined", f.name.split("::")[0]) for f in functions]
         elif column == "Refused edits":
             claims = [*of_edits(cell, crate)]
         else:

@@ -2,10 +2,10 @@
 """Holds the papers to the tree and to each other.
 
 Every citation of RULES.md names a section, a request or a module that is there, and the words that a definition or a statement quotes are the
-rules' own; the numbers of the header have their rows in RULES.md, and fringewell_describe tells each by the words of the enum. Links lead
-somewhere. The README shows crates/example as it is; the map has a row for each group of crates.txt, and each theorem of its index is in its
-file. Prose, and of the README the code too, has lines of at most 100 characters. And no contract cites a proof, so that what a signer reads
-is all in src and specs.
+rules' own; the numbers of the header have their rows in RULES.md, and fringewell_describe tells each by the words of the enum. What is exported
+to C promises what the function of its name in fringewell does. Links lead somewhere. The README shows crates/example as it is; the map has a
+row for each group of crates.txt, and each theorem of its index is in its file. Prose, and of the README the code too, has lines of at most 100
+characters. And no contract cites a proof, so that what a signer reads is all in src and specs.
 
 usage: tools/try/papers.py
 """
@@ -14,15 +14,15 @@ import sys
 from functools import cache
 from pathlib import Path
 
-from claims import declared
+import claims
 
 ROOT = Path(__file__).resolve().parents[2]
 WIDTH = 100
 NAMED = r'"[^"]+"|requests? \d+(?: and \d+)*|modules? \d+(?: and \d+)*'
 CITED = re.compile(rf"RULES\.md\)?, ((?:(?:, |; | and |, and )?(?:{NAMED}))+)")
 ELSEWHERE = re.compile(r"\bdocument[ ]0[12]\b", re.I)
-# folders of what is built, and files that are no text to read
-MADE = {".git", "target", "build", "__pycache__", "samples", "stdin", "stdout", "Cargo.lock"}
+# what is no text to read
+NO_TEXT = {"samples", "stdin", "stdout", "Cargo.lock"}
 # the grammar quotes BSON 1.1 rule by rule
 QUOTES_BSON = re.compile(r"Grammar(Points)?\.antt$")
 
@@ -35,8 +35,7 @@ def text(path):
 @cache
 def files():
     """What is written by hand, or by a script and read by hand."""
-    written = (path.relative_to(ROOT) for path in ROOT.rglob("*") if path.is_file() and not MADE & {*path.relative_to(ROOT).parts})
-    return sorted(path.as_posix() for path in written)
+    return sorted(path for path in claims.files() if (ROOT / path).is_file() and not NO_TEXT & {*Path(path).parts})
 
 
 def papers():
@@ -147,7 +146,7 @@ def wrong_lines():
 def wrong_readme():
     """What the README shows of the tree, as it is there; and its rows of measurements, which docs/NUMBERS.md has too."""
     shown = text("crates/example/src/main.rt").replace("\n", "\n    ").replace("\n    \n", "\n\n").strip()
-    line = re.search(r"^example:[^#]*", text("crates.txt"), re.M)[0].strip()
+    line = re.search(r"^example:[^#\n]*", text("crates.txt"), re.M)[0].strip()
     printed = (ROOT / "samples/beacon.txt").read_text() + (ROOT / "crates/example/stdout").read_text()
     lines = re.findall(r"^    (offset tag size|\d.*|accepted.*|battery low.*|joined.*)$", text("README.md"), re.M)
     rows = [row for row in re.findall(r"^\|.*", text("README.md"), re.M) if re.search(r"\d\.\d\d", row)]
@@ -165,20 +164,37 @@ def wrong_architecture():
     groups = re.findall(r"^# ---- (.*)", text("crates.txt"), re.M)
     yield from (f"docs/ARCHITECTURE.md has no row for {group!r}" for group in groups if not group.startswith(tuple(rows)))
     for _, theorems, where in (line.split(" | ") for line in page.split("\n## Theorems by claim\n")[1].split("\n") if ".antt" in line):
-        there = {name for path in re.findall(r"[\w/]+\.antt", where) for name in declared(f"crates/{path}")}
+        there = {name for path in re.findall(r"[\w/]+\.antt", where) for name in claims.declared(f"crates/{path}")}
         yield from (f"docs/ARCHITECTURE.md: {name} is not in {where.strip(' |')}" for name in re.findall(r"`([^`]+)`", theorems) if name not in there)
 
 
 def wrong_contracts():
-    """Sources and definitions that cite a proof; what the toolchain writes of a promise, `Reads`, is none."""
+    """Sources and definitions that cite a proof; what the toolchain writes of a promise, `Reads`, is none, nor is its library of mathematics."""
     sources = [path for path in files() if re.match(r"crates/\w+/(?:src|specs)/", path)]
-    return [f"{path} cites a proof" for path in sources if re.search(r"^(?:ghost )?use .*\.proofs\.(?!.*\.Reads\b)", text(path), re.M)]
+    return [f"{path} cites a proof" for path in sources if re.search(r"^(?:ghost )?use (?!Rattle\.std\.).*\.proofs\.(?!.*\.Reads\b)", text(path), re.M)]
+
+
+def heads(path):
+    """The functions of a source, each with what stands before its body: parameters, answer and clauses."""
+    found = re.findall(r"^pub (?:extern \"C\" )?fn (\w+)\((.*?)\n\{\n(.*?)\n\}$", text(path), re.M | re.S)
+    return {name: (re.sub(r"\s+|,(?=\s*\))", "", head), body) for name, head, body in found}
+
+
+def wrong_exports():
+    """What is exported to C is one call of the function of its name in fringewell, and says what that says."""
+    inner, outer = heads("crates/fringewell/src/lib.rt"), heads("crates/fringewell_c/src/lib.rt")
+    yield from (f"{name}: not in both fringewell and fringewell_c" for name in sorted(inner.keys() ^ outer.keys()))
+    for name in sorted(inner.keys() & outer.keys()):
+        (head, _), (said, body) = inner[name], outer[name]
+        lent = ", ".join(re.findall(r"(?:^|,)(\w+):", head.split(")->")[0]))
+        if (head, f"fringewell::{name}({lent})") != (said, re.sub(r"\s+", " ", body.strip())):
+            yield f"fringewell_c::{name} is not what fringewell::{name} is"
 
 
 def main():
     assert not any(map(is_rule, ('"No section"', "request 99", "modules 1 and 99"))) and citations()
     asked = [wrong_citations, wrong_quotes, wrong_numbers, wrong_words, wrong_links, wrong_lines, wrong_readme]
-    asked += [wrong_architecture, wrong_contracts]
+    asked += [wrong_architecture, wrong_contracts, wrong_exports]
     wrong = [what for ask in asked for what in ask()]
     if wrong:
         sys.exit("\n".join(wrong))
