@@ -1,4 +1,4 @@
--- The search for a key, begun at an offset: what a step there says of the whole search (RULES.md, "Lookup").
+-- The search for a key, begun at an offset: what a step there says of the whole search (RULES.md, "Values").
 use Prim.Native.Nat.{ℕ, ◌+◌, ◌-◌}
 use mathlib.Core.Path.{◌≡◌, sym, ◌∙◌}
 use mathlib.Core.List.{List}
