@@ -196,7 +196,9 @@ def try_one(file, room):
 
 
 def lanes():
-    """How many checks may run side by side: each takes up to three GB."""
+    """How many checks may run side by side: as RT_JOBS says, or one a processor, where each takes up to three GB."""
+    if number := os.environ.get("RT_JOBS"):
+        return int(number)
     free = int(re.search(r"MemAvailable:\s+(\d+)", Path("/proc/meminfo").read_text())[1]) // 1_000_000
     return max(1, min(len(os.sched_getaffinity(0)), free // 3))
 
