@@ -1,7 +1,7 @@
 // Checks a frame, says whether its battery is low, and joins the receiver's field behind it.
 #![tactic(auto)]
 
-ghost use Rattle.std.specs.Prelude.{◌≤◌, IfOk, length};
+ghost use Rattle.std.specs.Prelude.{◌≤◌, length};
 
 use doc_writer::scalars;
 use join::Joined;
@@ -49,24 +49,23 @@ fn add_field(rt: &impl Print, out: &mut [u8], frame: &[u8]) -> io::Result<()> {
     }
 }
 
-// Reads until the input ends or the buffer is full; how many bytes there are then.
-fn read_full(input: &mut impl Read, space: &mut [u8]) -> io::Result<usize>
-    ensures { IfOk result (λ n. n ≤ length space.old) }
+// Reads to the end of the input, to a failed read or until full; how many bytes there are then.
+fn read_full(input: &mut impl Read, space: &mut [u8]) -> usize
+    ensures { result ≤ length space.old }
 {
     let mut n = 0;
     while n < space.len() {
-        let got = input.read(&mut space[n..])?;
-        if got == 0 {
-            break;
+        match input.read(&mut space[n..]) {
+            Ok(0) | Err(_) => break,
+            Ok(got) => n += got,
         }
-        n += got;
     }
-    Ok(n)
+    n
 }
 
 fn main(rt: HostRuntime) -> io::Result<()> {
     let mut space = [0; 65536];
-    let n = read_full(&mut rt.reader(), &mut space)?;
+    let n = read_full(&mut rt.reader(), &mut space);
     // a full buffer may hold the front of something longer
     if n == 65536 {
         return println!(rt; "too long, bytes: {n}");

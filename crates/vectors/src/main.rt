@@ -16,12 +16,11 @@ mod text;
 mod values;
 mod writing;
 
-ghost use Rattle.std.specs.Prelude.{◌≤◌, IfOk, length};
+ghost use Rattle.std.specs.Prelude.{◌≤◌, length};
 
 use documents::{replay_limited, replay_plain};
 use progress::Progress;
 use questions::replay_question;
-use std::io;
 use std::io::Read;
 use text::{behind, find, say, word_number};
 use writing::replay_session;
@@ -73,20 +72,19 @@ fn move_to_front(space: &mut [u8], from: usize)
     }
 }
 
-// Reads behind what is held, until the input ends or the buffer is full; how many bytes there are then.
-fn fill(input: &mut impl Read, space: &mut [u8], held: usize) -> io::Result<usize>
+// Reads behind what is held, until the input ends, a read fails or the buffer is full; how many bytes there are then.
+fn fill(input: &mut impl Read, space: &mut [u8], held: usize) -> usize
     requires { held ≤ length space.old }
-    ensures { IfOk result (λ n. n ≤ length space.old) }
+    ensures { result ≤ length space.old }
 {
     let mut n = held;
     while n < space.len() {
-        let got = input.read(&mut space[n..])?;
-        if got == 0 {
-            break;
+        match input.read(&mut space[n..]) {
+            Ok(0) | Err(_) => break,
+            Ok(got) => n += got,
         }
-        n += got;
     }
-    Ok(n)
+    n
 }
 
 // How many bytes in front of the buffer are an unfinished line.
@@ -102,22 +100,22 @@ fn replay_block<R: Input + Print>(
     space: &mut [u8],
     held: usize,
     progress: Progress,
-) -> io::Result<Block>
+) -> Block
     requires { held ≤ length space.old }
-    ensures { IfOk result (λ block. block.held ≤ length space.old) }
+    ensures { result.held ≤ length space.old }
 {
-    let filled = fill(&mut rt.reader(), space, held)?;
+    let filled = fill(&mut rt.reader(), space, held);
     let ended = filled < space.len();
     let lines = replay_lines(rt, &space[0..filled], ended, progress);
     let rest = lines.rest;
     let progress = lines.progress;
     let held = filled - rest;
     move_to_front(space, rest);
-    Ok(Block {
+    Block {
         held,
         ended,
         progress,
-    })
+    }
 }
 
 // A block that has not ended is one that a single line fills.
@@ -129,7 +127,7 @@ fn say_end(rt: &impl Print, last: Block) {
     }
 }
 
-fn main(rt: HostRuntime) -> io::Result<()> {
+fn main(rt: HostRuntime) {
     let mut space = [0; 65536];
     let mut block = Block {
         held: 0,
@@ -141,8 +139,7 @@ fn main(rt: HostRuntime) -> io::Result<()> {
         if block.ended || 65536 <= block.held {
             break;
         }
-        block = replay_block(&rt, &mut space, block.held, block.progress)?;
+        block = replay_block(&rt, &mut space, block.held, block.progress);
     }
     say_end(&rt, block);
-    Ok(())
 }
