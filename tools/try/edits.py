@@ -3,8 +3,9 @@
 
 A file crates/CRATE/must-fail/FILE.edit with lines `fn:` holds edits of different functions, tried together: a line `# NAME`, then `fn: FUNCTION`
 with the function's folder in proofs/, then what `rt` replaces. Each such function must be refused by a fact of its own, and nothing beside
-them may be. A file without such a line is one edit, of a definition or a promise, by the name of the file: a proof must be refused by a fact of
-its own, and no definition. docs/CLAIMS.md names every edit.
+them may be, but what a line `also: FUNCTION` names, since it leans on the same constants. A file without a line `fn:` is one edit, of a
+definition or a promise, by the name of the file: a proof must be refused by a fact of its own, and no definition. docs/CLAIMS.md names every
+edit.
 
 Each file is tried as `rt` does: a check of the crate with these edits, over what a check without them has proved.
 
@@ -50,6 +51,7 @@ class File:
         self.name = f"{self.crate}/{path.stem}"
         self.text = path.read_text()
         self.functions = named(self.text) or {path.stem: None}
+        self.also = {plain(folder) for folder in re.findall(r"^also: (\S+)$", self.text, re.M)}
         if self.text.count("fn: ") != len({*self.functions.values()} - {None}):
             sys.exit(f"{self.name}: an edit without a name of its own, or two edits of one function")
 
@@ -108,9 +110,9 @@ def refused(crate, log):
     return found
 
 
-def complaints(crate, functions, log):
+def complaints(crate, functions, log, also=frozenset()):
     """What is wrong with edits of these functions, tried together, that left this log."""
-    found = refused(crate, log)
+    found = refused(crate, log) - also
     if None in functions.values():
         return [f"{name} has an error" for name in found if name.startswith("specs/")] or ([] if found else ["no fact is refused"])
     missed = [f"{name}: {function} is not refused by itself" for name, function in functions.items() if plain(function) not in found]
@@ -142,8 +144,8 @@ def try_complaints(file):
             assert complaints(file.crate, file.functions, ""), file.name
         else:
             others = {other: f for other, f in file.functions.items() if other != name}
-            assert complaints(file.crate, file.functions, without_errors_of(file.crate, function, file.log)), f"{file.name}: {name}"
-            assert complaints(file.crate, others, file.log), f"{file.name}: {name}"
+            assert complaints(file.crate, file.functions, without_errors_of(file.crate, function, file.log), file.also), f"{file.name}: {name}"
+            assert complaints(file.crate, others, file.log, file.also), f"{file.name}: {name}"
 
 
 # ---- the checks
@@ -192,7 +194,7 @@ def try_one(file, room):
         status, file.log = kit.rattle("check", file.crate, "--incremental", str(folder / "proved"), folder=folder)
     if status != 1 or not file.log.rstrip().split("\n")[-1].startswith("logic=not-proved"):
         return [f"{file.name}: its check ended with status {status}: {file.log.strip()[-300:]}"]
-    return [f"{file.name}: {what}" for what in complaints(file.crate, file.functions, file.log)]
+    return [f"{file.name}: {what}" for what in complaints(file.crate, file.functions, file.log, file.also)]
 
 
 def lanes():
