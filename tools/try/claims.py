@@ -19,7 +19,7 @@ from edits import named
 
 ROOT = Path(__file__).resolve().parents[2]
 # names that are not the repository's: of the language, its tools and its library, of C, and of the Rust; and a line that a program prints
-OUTSIDE = {"&[u8]", "ensures", "requires", "rt ci", "leb", "get_or", "memset", "snprintf", "read", "write", "TooLongCStr", "max_cstr_parse_len", "unread"}
+OUTSIDE = {"&[u8]", "ensures", "requires", "rt ci", "leb", "get_or", "memset", "snprintf", "read", "write", "TooLongCStr", "max_cstr_parse_len", "unread", "Some", "None"}
 KIT = re.compile(r"rattle-kit-\S+ logic [0-9a-f]+")
 FOLDERS = r"\.ci|bench|c|crates|diff|docs|include|samples|tools"
 ITEM = re.compile(rf"`([^`]+)`|\b((?:[\w+]+/)+[\w+]+\.\w+|[A-Z]\w+\.antt|(?:{FOLDERS})/[\w/]+\w)")
@@ -57,7 +57,7 @@ def declared(path):
     if path.endswith(".antt"):
         several = {name for names in DECLARED.findall(text) for name in names.split()}
         return several | set(re.findall(r"^[ ]*(?:pub )?(?:record|data) (\S+)", text, re.M))
-    return set(re.findall(r"\b(?:fn|struct|enum|const|type) (\w+)", text))
+    return set(re.findall(r"\b(?:fn|struct|enum|const|static|type) (\w+)", text))
 
 
 @cache
@@ -95,8 +95,8 @@ def exported():
 
 
 def is_function(name, crate):
-    """Whether FUNCTION, CRATE::FUNCTION or CRATE::MODULE::FUNCTION is one."""
-    *front, function = name.split("::")
+    """Whether FUNCTION, CRATE::FUNCTION or CRATE::MODULE::FUNCTION is one; a method has its type in front."""
+    *front, function = re.sub(r"\b[A-Z]\w*::", "", name).split("::")
     return function in code_of(front[0] if front else crate, "/".join(front[1:]))
 
 

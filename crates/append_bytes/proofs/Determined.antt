@@ -2,7 +2,8 @@
 use contract.Lifetimes.{Lfts}
 use borrow.Fn.Kinds.{Dens}
 use Rattle.bson.specs.Writer.{desk}
-use Rattle.laws.proofs.Determined.{DeterminedBuf, written_same}
+use Rattle.laws.proofs.Determined.{DeterminedBuf}
+use Rattle.appending.proofs.Exits.{written_same}
 use Rattle.append_bytes.proofs.append_string.Reads as append_string_reads
 use Rattle.append_bytes.proofs.append_string.Kinds as append_string_kinds
 use Rattle.append_bytes.proofs.append_code.Reads as append_code_reads

@@ -2,7 +2,7 @@
 use Prim.Native.Nat.{ℕ, ◌+◌, ◌-◌}
 use mathlib.Core.Path.{◌≡◌, refl, sym, ap, ◌∙◌}
 use mathlib.Core.List.{List, [], ◌∷◌, ◌++◌, append-nil, append_assoc}
-use mathlib.Core.Bool.{Bool, ◌&&◌}
+use mathlib.Core.Bool.{Bool}
 use native.Mathlib.Omega.{arith}
 use lib.ListN.{length, take, drop, length-append}
 use borrow.Author.Tests.{eq-eqb, ne_eqb}
@@ -12,9 +12,9 @@ use Rattle.laws.proofs.Common.{rest_part}
 use Rattle.laws.proofs.GrammarLaws.{length_bytes32}
 use Rattle.appending.specs.Element.{appending}
 
-pub text_runs : (text behind size : List ℕ) → size ≡ bytes32 (length text + 1) → size ++ (text ++ (0 ∷ behind)) ≡ string_bytes text ++ behind
+pub text_runs : (text behind size : List ℕ) → size ≡ bytes32 (length text + 1) → size ++ (text ++ (0 ∷ (behind ++ []))) ≡ string_bytes text ++ behind
 unfolding string_bytes bytes32
-text_runs text behind size e = rw (e, append_assoc text (0 ∷ []) behind)
+text_runs text behind size e = rw (e, append-nil behind, append_assoc text (0 ∷ []) behind)
 
 pub text_joined : (text : List ℕ) → bytes32 (length text + 1) ++ (text ++ (0 ∷ [])) ≡ string_bytes text
 unfolding string_bytes
@@ -33,13 +33,10 @@ whole_key w buffer tag key value {a = a} h e =
 
 module _ (subtype : ℕ) (contents size : List ℕ) (es : size ≡ bytes32 (length contents)) where
   pub with_inner_length : subtype ≡ 2 → (outer : List ℕ) → outer ≡ bytes32 (length contents + 4)
-      → outer ++ (2 ∷ (size ++ contents)) ≡ binary_bytes subtype contents
+      → outer ++ (2 ∷ (size ++ (contents ++ []))) ≡ binary_bytes subtype contents
   unfolding binary_bytes
-  with_inner_length h outer eo = rw (eq-eqb subtype 2 h, eo, es)
+  with_inner_length h outer eo = rw (eq-eqb subtype 2 h, eo, es, append-nil contents)
 
   pub with_one_length : (subtype ≡ 2 → ⊥) → size ++ (subtype ∷ (contents ++ [])) ≡ binary_bytes subtype contents
   unfolding binary_bytes
   with_one_length h = rw (ne_eqb subtype 2 h, es, append-nil contents)
-
-pub both : (a b x y : Bool) → a ≡ x → b ≡ y → a && b ≡ x && y
-both a b x y e f = rw (e, f)

@@ -2,7 +2,8 @@
 use contract.Lifetimes.{Lfts}
 use borrow.Fn.Kinds.{Dens}
 use Rattle.bson.specs.Writer.{desk}
-use Rattle.laws.proofs.Determined.{DeterminedBuf, written_same}
+use Rattle.laws.proofs.Determined.{DeterminedBuf}
+use Rattle.appending.proofs.Exits.{written_same}
 use Rattle.append_scalars.proofs.append_double.Reads as append_double_reads
 use Rattle.append_scalars.proofs.append_double.Kinds as append_double_kinds
 use Rattle.append_scalars.proofs.append_bool.Reads as append_bool_reads

@@ -3,7 +3,7 @@
 use Prim.Native.Nat.{ℕ, ◌+◌, ◌-◌, ◌≤◌, ◌<◌, ◌^◌}
 use mathlib.Core.Path.{◌≡◌, refl, sym, ap, ◌∙◌}
 use mathlib.Core.List.{List, [], ◌∷◌}
-use mathlib.Core.Bool.{Bool, true, true≢false}
+use mathlib.Core.Bool.{Bool, true}
 use native.Mathlib.Omega.{arith}
 use lib.ListN.{length}
 use borrow.Author.Tests.{leb-true, le-leb}
@@ -15,8 +15,7 @@ use Rattle.bson.specs.Writer.{written}
 use Rattle.laws.proofs.GrammarLaws.{length_element}
 use Rattle.laws.proofs.OutputLaws.{texts_fit}
 use Rattle.laws.proofs.WriterLaws.{room_within, innermost_says, DeskSizes, desk_sizes, room_says}
-use Rattle.laws.proofs.WriterRefusals.{room_refused}
-use Rattle.appending.specs.Element.{number_of, headed, heading}
+use Rattle.appending.specs.Element.{headed, heading}
 
 -- ---- the texts of a head
 
@@ -33,56 +32,40 @@ unfolding kind_holds
 still_holds in_document n h e = refl
 still_holds (in_array count) n h e = le-leb count 2147483647 (omega (arith, leb-true count n e))
 
-module _ (w : State) (buffer : List ℕ) (m : ℕ) (kind : Kind) (em : m ≡ room (length buffer)) (ei : innermost w m ≡ gives kind) where
-  inner : innermost w (room (length buffer)) ≡ gives kind
-  inner = ap (innermost w) (sym em) ∙ ei
-
-  known : DeskSizes (desk w buffer) kind
-  known = desk_sizes (desk w buffer) kind (innermost_says (desk w buffer) kind inner)
-
-  -- what a word more relies on
-  pub few : (depth w ≤ 202) × (kind_holds 2147483647 kind ≡ true)
-  few = (known.most, still_holds kind (used w) (omega (arith, known.small)) known.counted)
-
 -- ---- the head put
 
-module _ (w : State) (buffer : List ℕ) (m : ℕ) (kind : Kind) (em : m ≡ room (length buffer)) (ei : innermost w m ≡ gives kind)
-    (more tag : ℕ) (key : List ℕ) (good : Bool) (size : ℕ) where
-  front : List ℕ
-  front = element_bytes tag (key_in kind key) []
+module _ (w : State) (buffer : List ℕ) (m : ℕ) (em : m ≡ room (length buffer)) (more tag : ℕ) (key : List ℕ) (good : Bool) (size : ℕ) where
+  -- in the room of the buffer
+  roomed : {a : Answer Kind} → a ≡ room_for w m more key good size → room_for w (room (length buffer)) more key good size ≡ a
+  roomed e = sym (e ∙ ap (λ (k : ℕ). room_for w k more key good size) em)
 
-  module _ (n : ℕ) (en : n ≡ number_of (room_for w m more key good size)) where
-    number_is : n ≡ number_of (room_for w (room (length buffer)) more key good size)
-    number_is = en ∙ ap (λ (k : ℕ). number_of (room_for w k more key good size)) em
+  pub refused : {n p : ℕ} → refuses n p ≡ room_for w m more key good size → written n w buffer ≡ heading w buffer more tag key good size
+  unfolding heading headed
+  refused e = rw (roomed e)
 
-    pub refused : (n ≡ 0 → ⊥) → written n w buffer ≡ heading w buffer more tag key good size
-    unfolding heading headed
-    refused h = by (room_for w (room (length buffer)) more key good size) refl
-      where
-        by : (a : Answer Kind) → room_for w (room (length buffer)) more key good size ≡ a
-            → written n w buffer ≡ heading w buffer more tag key good size
-        by (gives k) q = absurd (h (number_is ∙ ap number_of q))
-        by (refuses k p) q = rw (number_is, q)
+  module _ (kind : Kind) (er : gives kind ≡ room_for w m more key good size) where
+    passed : room_for w (room (length buffer)) more key good size ≡ gives kind
+    passed = roomed er
 
-    -- 0 is no refusal, so it tells that the kind is given
-    passed : n ≡ 0 → room_for w (room (length buffer)) more key good size ≡ gives kind
-    passed z = by (room_for w (room (length buffer)) more key good size) refl
-      where
-        by : (a : Answer Kind) → room_for w (room (length buffer)) more key good size ≡ a
-            → room_for w (room (length buffer)) more key good size ≡ gives kind
-        by (gives k) q =
-            let r = room_says w (room (length buffer)) more key good size k q in
-            q ∙ sym r.inner ∙ inner w buffer m kind em ei
-        by (refuses k p) q =
-            let k0 : k ≡ 0 = sym (number_is ∙ ap number_of q) ∙ z in
-            absurd (true≢false (sym (rw k0 at (room_refused w (room (length buffer)) more key good size k p q))))
+    inner : innermost w (room (length buffer)) ≡ gives kind
+    inner = (room_says w (room (length buffer)) more key good size kind passed).inner
 
-    module _ (e : n ≡ 0) (at : ℕ) (ea : at ≡ used w) (exit : List ℕ) (end : ℕ)
+    known : DeskSizes (desk w buffer) kind
+    known = desk_sizes (desk w buffer) kind (innermost_says (desk w buffer) kind inner)
+
+    -- what a word more relies on
+    pub few : (0 < depth w) × (depth w ≤ 202) × (kind_holds 2147483647 kind ≡ true)
+    few = (known.some, known.most, still_holds kind (used w) (omega (arith, known.small)) known.counted)
+
+    front : List ℕ
+    front = element_bytes tag (key_in kind key) []
+
+    module _ (at : ℕ) (ea : at ≡ used w) (exit : List ℕ) (end : ℕ)
         (eo : output exit end ≡ put_texts (output buffer at) (texts tag (key_in kind key))) where
       front_fits : used w + (length front + size) + (depth w + more) ≤ room (length buffer)
       unfolding front
       front_fits =
-          let r = room_says w (room (length buffer)) more key good size kind (passed e) in
+          let r = room_says w (room (length buffer)) more key good size kind passed in
           omega (arith, r.in_room, length_element tag (key_in kind key) [])
 
       front_put : output exit end ≡ output (put buffer (used w) front) (used w + length front)
@@ -107,8 +90,8 @@ module _ (w : State) (buffer : List ℕ) (m : ℕ) (kind : Kind) (em : m ≡ roo
           let l = (room_within (length buffer)).1 in
           (omega arith, omega (arith, grown_by, front_fits))
 
-      pub done : (v : State) → v ≡ grown kind w (end - at + size) → written n v exit ≡ heading w buffer more tag key good size
+      pub done : (v : State) → v ≡ grown kind w (end - at + size) → written 0 v exit ≡ heading w buffer more tag key good size
       unfolding heading headed front
       done v ev =
           let b : exit ≡ put buffer (used w) front = ap (λ (o : Output). o.buffer) front_put in
-          rw (passed e, e, ev, grown_by, b)
+          rw (passed, ev, grown_by, b)

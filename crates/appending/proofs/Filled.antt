@@ -4,20 +4,21 @@ use mathlib.Core.Path.{◌≡◌, refl, sym, ap, ◌∙◌}
 use mathlib.Core.List.{List, [], ◌∷◌, ◌++◌, append_assoc}
 use mathlib.Core.Bool.{Bool}
 use native.Mathlib.Omega.{arith}
-use lib.Dec.{eqb}
 use lib.ListN.{length, replicate, length-replicate}
-use borrow.Author.Tests.{eqb-true, eqb-false}
+use Rattle.std.specs.Prelude.{Result, Ok, Err}
 use Rattle.bson.specs.Answer.{Answer, gives, refuses, then}
 use Rattle.bson.specs.Grammar.{element_bytes}
 use Rattle.bson.specs.Output.{Output, output, put, put_texts, joined}
 use Rattle.bson.specs.Writer.{State, used, Kind, key_in, room_for, grown, Desk, desk, room_of, appended, Written, written, leaves}
 use Rattle.laws.proofs.AnswerLaws.{then_same}
-use Rattle.laws.proofs.Common.{split}
 use Rattle.laws.proofs.GrammarLaws.{length_element}
 use Rattle.laws.proofs.OutputLaws.{put_put, texts_fit}
 use Rattle.laws.proofs.WriterWords.{there, grown_used}
 use Rattle.laws.proofs.WriterLaws.{room_within, innermost_says, desk_sizes, room_says, appended_says}
 use Rattle.laws.proofs.WriterRefusals.{appended_refused, accepted_from}
+use Rattle.refusal.proofs.Determined.{number_in_injective}
+use Rattle.refusal.specs.Said.{number, number_in}
+use Rattle.refusal.specs.declared.Refusal.{Refusal}
 use Rattle.appending.specs.Element.{appending, headed, heading}
 
 -- ---- the tests in front
@@ -76,6 +77,10 @@ module _ (d : Desk) (more tag : ℕ) (key : List ℕ) (good : Bool) (value : Lis
 
 -- ---- the value behind the head
 
+-- no refusal has the number 0
+pub numbered : (why : Refusal) → number why ≡ 0 → ⊥
+numbered why z = let e : ◌≡◌ {A = Result Unit Refusal} (Err why) (Ok tt) = number_in_injective (Err why) (Ok tt) z in cc
+
 module _ (w : State) (buffer : List ℕ) (more tag : ℕ) (key : List ℕ) (good : Bool) (value : List ℕ) {size : ℕ} (es : size ≡ length value)
     {n : ℕ} {v : State} {b : List ℕ} (e : written n v b ≡ heading w buffer more tag key good size) where
   was : Answer Desk
@@ -97,13 +102,14 @@ module _ (w : State) (buffer : List ℕ) (more tag : ℕ) (key : List ℕ) (good
       ∙ ap (λ (x : Written). gives x.left) (sym is)
 
   -- refused by the head
-  pub head_refused : (n ≡ 0 → ⊥) → written n v b ≡ appending w buffer more tag key good value
+  pub head_refused : (why : Refusal) → n ≡ number why → written (number why) v b ≡ appending w buffer more tag key good value
   unfolding appending
-  head_refused h = by was refl
+  head_refused why z = by was refl
     where
-      by : (a : Answer Desk) → was ≡ a → written n v b ≡ leaves (desk w buffer) (appended (desk w buffer) more tag key good value)
-      by (gives x) q = absurd (h (ap (λ (x : Written). x.number) is ∙ ap (λ (a : Answer Desk). (leaves (desk w buffer) a).number) q))
-      by (refuses k p) q = is ∙ ap (leaves (desk w buffer)) (q ∙ sym (element ∙ rw q))
+      by : (a : Answer Desk) → was ≡ a → written (number why) v b ≡ leaves (desk w buffer) (appended (desk w buffer) more tag key good value)
+      by (gives x) q =
+          absurd (numbered why (sym z ∙ ap (λ (x : Written). x.number) is ∙ ap (λ (a : Answer Desk). (leaves (desk w buffer) a).number) q))
+      by (refuses k p) q = ap (λ (m : ℕ). written m v b) (sym z) ∙ is ∙ ap (leaves (desk w buffer)) (q ∙ sym (element ∙ rw q))
 
   module _ (z : n ≡ 0) where
     given : appended (desk w buffer) more tag key good value ≡ gives (desk v (put b (used v - length value) value))
@@ -122,16 +128,16 @@ module _ (w : State) (buffer : List ℕ) (more tag : ℕ) (key : List ℕ) (good
         (omega arith, omega (arith, a.in_room, r.0), omega (arith, a.in_room, r.1))
 
     pub value_put : length b ≡ length buffer → {at : ℕ} → at ≡ used v - size → (texts : List (List ℕ)) → joined texts ≡ value
-        → {exit : List ℕ} {end : ℕ} → output exit end ≡ put_texts (output b at) texts
-        → written n v exit ≡ appending w buffer more tag key good value
+        → {left : List ℕ} {end : ℕ} → output left end ≡ put_texts (output b at) texts → {exit : List ℕ} → exit ≡ left
+        → written 0 v exit ≡ appending w buffer more tag key good value
     unfolding appending
-    value_put lb {at} ea texts ej {exit} eo =
+    value_put lb {at} ea texts ej eo {exit} ex =
         let f = value_fits in
         let l : length (joined texts) ≡ length value = ap length ej in
         let x : exit
-        ≡ put b at (joined texts) = ap (λ (o : Output). o.buffer) (eo ∙ texts_fit (output b at) texts (omega (arith, f.0, f.1))) in
+        ≡ put b at (joined texts) = ex ∙ ap (λ (o : Output). o.buffer) (eo ∙ texts_fit (output b at) texts (omega (arith, f.0, f.1))) in
         let i : at ≡ used v - length value = omega arith in
-        rw (given, z, x, ej, i)
+        rw (given, x, ej, i)
 
 -- ---- a head alone
 
@@ -142,10 +148,8 @@ head_ready w buffer more tag key good size e z eu =
     omega (arith, (value_fits w buffer more tag key good (replicate size 0) (sym (length-replicate size 0)) e z).0)
 
 -- a head alone is an element without a value
-pub nothing_put : (w : State) (buffer : List ℕ) (more tag : ℕ) (key : List ℕ) (good : Bool) {n : ℕ} {v : State} {b : List ℕ}
-    → written n v b ≡ heading w buffer more tag key good 0 → length b ≡ length buffer
-    → written n v b ≡ appending w buffer more tag key good []
-nothing_put w buffer more tag key good {n} e lb =
-    split (eqb n 0)
-    (λ t. value_put w buffer more tag key good [] refl e (eqb-true n 0 t) lb refl [] refl refl)
-    (λ t. head_refused w buffer more tag key good [] refl e (eqb-false n 0 t))
+pub nothing_put : (w : State) (buffer : List ℕ) (more tag : ℕ) (key : List ℕ) (good : Bool) (r : Result Unit Refusal) {v : State} {b : List ℕ}
+    → written (number_in r) v b ≡ heading w buffer more tag key good 0 → length b ≡ length buffer
+    → written (number_in r) v b ≡ appending w buffer more tag key good []
+nothing_put w buffer more tag key good (Ok u) e lb = value_put w buffer more tag key good [] refl e refl lb refl [] refl refl refl
+nothing_put w buffer more tag key good (Err why) e lb = head_refused w buffer more tag key good [] refl e why refl

@@ -1,3 +1,4 @@
+pub mod Exits
 pub mod Cascade
 pub mod Element
 pub mod Filled

@@ -1,14 +1,10 @@
 -- An element appended, and its head put before its value, as the inner functions answer (RULES.md, "Writer and joining").
-use Rattle.std.specs.Prelude.{ℕ, ◌+◌, List, [], Bool, cond, leb, length}
-use Rattle.bson.specs.Answer.{Answer, gives, refuses, then}
+use Rattle.std.specs.Prelude.{ℕ, ◌+◌, List, [], Bool, cond, leb, length, map}
+use Rattle.std.specs.Borrow.{Bor}
+use Rattle.bson.specs.Answer.{Answer, gives, then}
 use Rattle.bson.specs.Grammar.{element_bytes}
 use Rattle.bson.specs.Output.{put}
 use Rattle.bson.specs.Writer.{State, used, key_in, room_for, grown, Desk, desk, room_of, appended, Written, leaves}
-
--- the number of a refusal, or 0
-abbrev pub number_of : {A : Type 0} → Answer A → ℕ
-number_of (gives a) = 0
-number_of (refuses n p) = n
 
 unfoldable pub appending : State → List ℕ → ℕ → ℕ → List ℕ → Bool → List ℕ → Written
 appending w buffer more tag key good value = leaves (desk w buffer) (appended (desk w buffer) more tag key good value)
@@ -23,6 +19,10 @@ headed d more tag key good size =
 
 unfoldable pub heading : State → List ℕ → ℕ → ℕ → List ℕ → Bool → ℕ → Written
 heading w buffer more tag key good size = leaves (desk w buffer) (headed (desk w buffer) more tag key good size)
+
+-- what some texts hold that are lent
+abbrev pub texts_of : List (Bor (List ℕ)) → List (List ℕ)
+texts_of ts = map (λ t. t.now) ts
 
 -- a size, or one more than any room
 unfoldable pub bounded : ℕ → ℕ

@@ -2,13 +2,16 @@
 #![tactic(auto)]
 
 ghost use Rattle.std.specs.Prelude.{◌≡◌, true, [], ◌∷◌, ◌++◌, ◌+◌, ◌≤◌, ◌<◌, ◌^◌, length};
-ghost use Rattle.bson.specs.Answer.{gives};
 ghost use Rattle.bson.specs.Output as paper;
+ghost use Rattle.output.specs.Puts.{held, Holds, Puts};
 ghost use Rattle.bson.specs.Writer as writer;
+ghost use Rattle.refusal.specs.Said.{said_by, number_in};
 ghost use Rattle.writer_state.specs.Said.{said_kind};
-ghost use Rattle.appending.specs.Element.{number_of, appending, heading, bounded};
+ghost use Rattle.appending.specs.Element.{appending, heading, texts_of, bounded};
 
-use writer_state::{Kind, OpenKind, Words};
+use output::Output;
+use refusal::Refusal;
+use writer_state::{Kind, Words};
 
 // How many bytes the key has that is written.
 fn key_size(kind: Kind, key: &[u8]) -> usize
@@ -31,25 +34,23 @@ fn key_passes(kind: Kind, key: &[u8]) -> bool
 }
 
 // Puts the key that is written.
-fn put_key(out: &mut [u8], at: usize, kind: Kind, key: &[u8]) -> usize
-    ensures { paper.output out.new result
-        ≡ paper.put_text (paper.output out.old at) (writer.key_in (said_kind kind) key.now) }
+fn put_key(output: &mut Output, kind: Kind, key: &[u8])
+    ensures { Puts output.old output.new (writer.key_in (said_kind kind) key.now) }
 {
     match kind {
-        Kind::Document => output::put_text(out, at, key),
-        Kind::Array(count) => decimal::put_decimal(out, at, count as usize),
+        Kind::Document => output.put_text(key),
+        Kind::Array(count) => decimal::put_decimal(output, count as usize),
     }
 }
 
 // Puts the head of an element: its tag, its key and a zero.
-fn put_head(out: &mut [u8], at: usize, tag: u8, kind: Kind, key: &[u8]) -> usize
-    ensures { paper.output out.new result ≡ paper.put_texts (paper.output out.old at)
-        ((tag ∷ []) ∷ writer.key_in (said_kind kind) key.now ∷ (0 ∷ []) ∷ []) }
+fn put_head(output: &mut Output, tag: u8, kind: Kind, key: &[u8])
+    ensures { Holds output.old output.new (paper.put_texts (held output.old)
+        ((tag ∷ []) ∷ writer.key_in (said_kind kind) key.now ∷ (0 ∷ []) ∷ [])) }
 {
-    let first = [tag];
-    let a = output::put_text(out, at, &first);
-    let b = put_key(out, a, kind, key);
-    output::put_text(out, b, b"\0")
+    output.put_text(&[tag]);
+    put_key(output, kind, key);
+    output.put_text(b"\0");
 }
 
 // One element more, of so many bytes.
@@ -73,59 +74,33 @@ fn next_depth(words: &Words) -> usize
     writer_state::depth(words) - 1
 }
 
-// The refusal of an element in the innermost, of this kind, with a value of so many bytes, or 0.
-fn refusal(
+// Whether an element with a value of so many bytes may be appended: the kind of the innermost, or 18, 13, 15 or 14.
+fn room_for(
     words: &Words,
     room: usize,
-    kind: Kind,
     more: u8,
     key: &[u8],
     good: bool,
     size: usize,
-) -> u8
-    requires { writer.innermost words.now room ≡ gives (said_kind kind) }
-    ensures { result ≡ number_of (writer.room_for words.now room more key.now good size) }
+) -> Result<Kind, Refusal>
+    ensures { said_by said_kind result ≡ writer.room_for words.now room more key.now good size }
 {
+    let kind = writer_state::innermost(words, room)?;
     if bounds::MAX_DEPTH < next_depth(words) {
-        return 13;
+        return Err(Refusal::TooDeep);
     }
-    if key_passes(kind, key) & good {
-        let left = room - (writer_state::used(words) + writer_state::depth(words));
-        if output::fits(left, 2 + key_size(kind, key) + more as usize, size) {
-            return 0;
-        }
-        return 14;
+    if !(key_passes(kind, key) & good) {
+        return Err(Refusal::BadText);
     }
-    15
-}
-
-// Puts a head in the innermost, of this kind.
-fn head_in(
-    out: &mut [u8],
-    words: &mut Words,
-    room: usize,
-    kind: Kind,
-    more: u8,
-    tag: u8,
-    key: &[u8],
-    good: bool,
-    size: usize,
-) -> u8
-    requires { (room ≡ writer.room (length out.old)) × (writer.innermost words.old room ≡ gives (said_kind kind)) }
-    ensures { writer.written result words.new out.new
-        ≡ heading words.old out.old more tag key.now good size }
-{
-    let n = refusal(words, room, kind, more, key, good, size);
-    if n == 0 {
-        let at = writer_state::used(words);
-        let end = put_head(out, at, tag, kind, key);
-        grow(words, kind, end - at + size);
+    let left = room - (writer_state::used(words) + writer_state::depth(words));
+    if !output::fits(left, 2 + key_size(kind, key) + more as usize, size) {
+        return Err(Refusal::NoRoom);
     }
-    n
+    Ok(kind)
 }
 
 // Puts the head of an element, whose value of so many bytes is then to be put behind it, up to the used bytes' end; `more` documents
-// are then open besides. The number of the refusal, or 0.
+// are then open besides.
 pub fn head(
     out: &mut [u8],
     words: &mut Words,
@@ -134,55 +109,43 @@ pub fn head(
     key: &[u8],
     good: bool,
     size: usize,
-) -> u8
-    ensures { writer.written result words.new out.new
+) -> Result<(), Refusal>
+    ensures { writer.written (number_in result) words.new out.new
         ≡ heading words.old out.old more tag key.now good size }
 {
     let room = writer_state::room_of(out.len());
-    match writer_state::innermost(words, room) {
-        OpenKind::Is(kind) => head_in(out, words, room, kind, more, tag, key, good, size),
-        OpenKind::Refused(number) => number,
-    }
+    let kind = room_for(words, room, more, key, good, size)?;
+    let used = writer_state::used(words);
+    let mut output = Output { buffer: out, used };
+    put_head(&mut output, tag, kind, key);
+    grow(words, kind, output.used - used + size);
+    Ok(())
 }
 
 // One byte more than can ever fit.
 const TOO_LONG: usize = bounds::MAX_LEN + 1;
 
-// How many bytes four runs have, or one more than can ever fit.
-fn total(p: usize, q: usize, r: usize, s: usize) -> usize
-    ensures { result ≡ bounded (p + (q + (r + s))) }
+// How many bytes some runs have, or one more than can ever fit.
+fn total(runs: &[&[u8]]) -> usize
+    ensures { result ≡ bounded (length (paper.joined (texts_of runs.now))) }
 {
-    if bounds::MAX_LEN < p {
-        return TOO_LONG;
+    let mut size: usize = 0;
+    for run in runs {
+        size = size.saturating_add(run.len());
     }
-    if bounds::MAX_LEN < q {
-        return TOO_LONG;
-    }
-    if bounds::MAX_LEN < r {
-        return TOO_LONG;
-    }
-    if bounds::MAX_LEN < s {
-        return TOO_LONG;
-    }
-    let n = p + (q + (r + s));
-    if bounds::MAX_LEN < n {
-        return TOO_LONG;
-    }
-    n
+    size.min(TOO_LONG)
 }
 
-// Puts a value in four runs.
-fn put_runs(out: &mut [u8], at: usize, p: &[u8], q: &[u8], r: &[u8], s: &[u8]) -> usize
-    ensures { paper.output out.new result ≡ paper.put_texts (paper.output out.old at)
-        (p.now ∷ q.now ∷ r.now ∷ s.now ∷ []) }
+// Puts a value in some runs.
+fn put_runs(output: &mut Output, runs: &[&[u8]])
+    ensures { Holds output.old output.new (paper.put_texts (held output.old) (texts_of runs.now)) }
 {
-    let a = output::put_text(out, at, p);
-    let b = output::put_text(out, a, q);
-    let c = output::put_text(out, b, r);
-    output::put_text(out, c, s)
+    for text in runs {
+        output.put_text(text);
+    }
 }
 
-// Appends an element, its value in four runs; `more` documents are then open besides. The number of the refusal, or 0.
+// Appends an element, its value in some runs; `more` documents are then open besides.
 pub fn append(
     out: &mut [u8],
     words: &mut Words,
@@ -190,20 +153,14 @@ pub fn append(
     tag: u8,
     key: &[u8],
     good: bool,
-    p: &[u8],
-    q: &[u8],
-    r: &[u8],
-    s: &[u8],
-) -> u8
-    ensures { writer.written result words.new out.new
-        ≡ appending words.old out.old more tag key.now good
-        (p.now ++ (q.now ++ (r.now ++ s.now))) }
+    runs: &[&[u8]],
+) -> Result<(), Refusal>
+    ensures { writer.written (number_in result) words.new out.new
+        ≡ appending words.old out.old more tag key.now good (paper.joined (texts_of runs.now)) }
 {
-    let size = total(p.len(), q.len(), r.len(), s.len());
-    let number = head(out, words, more, tag, key, good, size);
-    if number == 0 {
-        let at = writer_state::used(words) - size;
-        put_runs(out, at, p, q, r, s);
-    }
-    number
+    let size = total(runs);
+    head(out, words, more, tag, key, good, size)?;
+    let used = writer_state::used(words) - size;
+    put_runs(&mut Output { buffer: out, used }, runs);
+    Ok(())
 }

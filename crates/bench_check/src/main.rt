@@ -5,7 +5,6 @@ ghost use Rattle.std.specs.Prelude.{◌≤◌, length};
 
 use std::io;
 use std::io::Read;
-use whole::Verdict;
 
 const TURNS: u64 = 2000;
 
@@ -15,13 +14,7 @@ fn values_of(document: &[u8], before: usize) -> usize {
     if document.len() < before {
         return 0;
     }
-    match whole::check(document) {
-        Verdict::Accepted(values) => values,
-        Verdict::Refused {
-            number: _,
-            place: _,
-        } => 0,
-    }
+    whole::check(document, None).unwrap_or(0)
 }
 
 // The sum of the counts of all turns.

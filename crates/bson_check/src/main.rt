@@ -1,38 +1,25 @@
 // The check program: reads one document from standard input and prints its elements and the verdict (RULES.md, "Bytes to try").
 #![tactic(auto)]
 
-ghost use Rattle.std.specs.Prelude.{◌≡◌, ◌≤◌, length};
+ghost use Rattle.std.specs.Prelude.{◌≡◌, ◌≤◌, length, IfOk};
 
+use std::io;
 use std::io::Read;
 
-// How many bytes were read, and whether a read failed.
-#[derive(Clone, Copy)]
-struct Input {
-    size: usize,
-    failed: bool,
-}
-
-// Reads until the input ends, a read fails or the buffer is full: of what a full one leaves unread nothing is to be known.
-fn read_input(input: &mut impl Read, space: &mut [u8]) -> Input
-    ensures { result.size ≤ length space.old }
+// Reads until the input ends or the buffer is full, and says how many bytes there are: of what a full one leaves unread nothing is to be
+// known.
+fn read_input(input: &mut impl Read, space: &mut [u8]) -> io::Result<usize>
+    ensures { IfOk result (λ size. size ≤ length space.old) }
 {
     let mut size = 0;
     while size < space.len() {
-        match input.read(&mut space[size..]) {
-            Ok(0) => {
-                return Input {
-                    size,
-                    failed: false,
-                };
-            }
-            Ok(n) => size += n,
-            Err(_) => return Input { size, failed: true },
+        let n = input.read(&mut space[size..])?;
+        if n == 0 {
+            break;
         }
+        size += n;
     }
-    Input {
-        size,
-        failed: false,
-    }
+    Ok(size)
 }
 
 // A write that fails is not reported: one judges by the last line.
@@ -57,10 +44,8 @@ fn print_report(rt: &impl Print, s: &[u8]) {
 // Nothing is printed before reading is over.
 fn main(rt: HostRuntime) {
     let mut space = [0; 65536];
-    let input = read_input(&mut rt.reader(), &mut space);
-    if input.failed {
-        say(&rt, b"unread\n");
-    } else {
-        print_report(&rt, &space[..input.size]);
+    match read_input(&mut rt.reader(), &mut space) {
+        Ok(size) => print_report(&rt, &space[..size]),
+        Err(_) => say(&rt, b"unread\n"),
     }
 }

@@ -1,6 +1,6 @@
 -- The numbers that a caller in C is handed for each answer: 0 is no refusal, and what a refusal does not give is 0 (RULES.md, "Numbers
 -- returned" and module 8).
-use Rattle.std.specs.Prelude.{ℕ, ◌+◌, ◌*◌, Bool, cond, List, eqb, ℤ}
+use Rattle.std.specs.Prelude.{ℕ, ◌+◌, ◌*◌, Bool, cond, List, eqb, ℤ, Option, None, Some}
 use Rattle.bson.specs.Answer.{Answer, gives, refuses}
 use Rattle.bson.specs.Bytes.{Part}
 use Rattle.bson.specs.Grammar.{unsigned}
@@ -11,6 +11,8 @@ use Rattle.bson.specs.Step.{Cursor, Element, Step, yield, end}
 use Rattle.bson.specs.Value.{Value, leaf, document, array, code_with_scope, none, parts_of, boolean, int32, int64, date_time, double, timestamp}
 use Rattle.bson.specs.Value.{object_id, decimal128, string, code, symbol, null, undefined, min_key, max_key, db_pointer, binary, regex, value_of}
 use Rattle.bson.specs.Writer.{State, used}
+use Rattle.refusal.specs.Said.{number}
+use Rattle.refusal.specs.declared.Refused.{Refused}
 use Rattle.c_answers.specs.declared.VerdictNumbers.{VerdictNumbers}
 use Rattle.c_answers.specs.declared.ValueNumbers.{ValueNumbers}
 use Rattle.c_answers.specs.declared.StepNumbers.{StepNumbers}
@@ -21,6 +23,15 @@ use Rattle.c_answers.specs.declared.WrittenNumbers.{WrittenNumbers}
 
 abbrev pub truth : Bool → ℕ
 truth b = cond b 1 0
+
+-- of a refusal, if there is one, the number and the place
+abbrev pub number_or_0 : Option Refused → ℕ
+number_or_0 None = 0
+number_or_0 (Some r) = number r.why
+
+abbrev pub place_or_0 : Option Refused → ℕ
+place_or_0 None = 0
+place_or_0 (Some r) = r.place
 
 -- ---- the check and joining
 

@@ -1,27 +1,26 @@
 // Each answer in numbers, for callers in C: 0 is no refusal, and what a refusal does not give is 0 (RULES.md, "Numbers returned").
-#![tactic(auto)]
+#![tactic(auto, unfolding(bson::specs::Value::parts_of))]
 
 ghost use Rattle.std.specs.Prelude.{◌+◌, ◌*◌, ◌≡◌};
+ghost use Rattle.bson.specs.Answer.{refuses};
 ghost use Rattle.document.specs.Said as document;
 ghost use Rattle.iter.specs.Said as iter;
 ghost use Rattle.iter.specs.Said.{said_element};
 ghost use Rattle.join.specs.Said as join;
 ghost use Rattle.lossy.specs.Said as lossy;
 ghost use Rattle.part.specs.Said.{said_part};
-ghost use Rattle.reading.specs.Said as reading;
+ghost use Rattle.refusal.specs.Said.{number, number_in, placed, placed_by};
 ghost use Rattle.value.specs.Said.{said_value};
-ghost use Rattle.whole.specs.Said as whole;
 ghost use Rattle.c_answers.specs.Numbers.{truth, verdict, emptiness, joined, signed_bits, bits_of, valued, unvalued, found, stepped};
-ghost use Rattle.c_answers.specs.Numbers.{no_step, read_of, yielded, no_element, shown, written_by};
+ghost use Rattle.c_answers.specs.Numbers.{no_step, read_of, yielded, no_element, shown, written_by, number_or_0, place_or_0};
 
-use document::{Empty, Found};
+use document::Found;
 use iter::{Cursor, Element, Step};
-use join::Joined;
+use join::NotJoined;
 use lossy::Shown;
 use part::Part;
-use reading::Reading;
+use refusal::{Refusal, Refused};
 use value::Value;
-use whole::Verdict;
 use writer_state::Words;
 
 #[repr(C)]
@@ -103,59 +102,58 @@ pub struct WrittenNumbers {
     pub used: usize,
 }
 
-pub fn of_verdict(v: Verdict) -> VerdictNumbers
-    ensures { result ≡ verdict (whole.said v) }
+// A refusal of what counts.
+fn no_count(refused: Refused) -> VerdictNumbers
+    ensures { result ≡ verdict (refuses (number refused.why) refused.place) }
+{
+    VerdictNumbers {
+        number: refused.why.number() as u32,
+        place: refused.place,
+        count: 0,
+    }
+}
+
+pub fn of_verdict(v: Result<usize, Refused>) -> VerdictNumbers
+    ensures { result ≡ verdict (placed v) }
 {
     match v {
-        Verdict::Accepted(count) => VerdictNumbers {
+        Ok(count) => VerdictNumbers {
             number: 0,
             place: 0,
             count,
         },
-        Verdict::Refused { number, place } => VerdictNumbers {
-            number: number as u32,
-            place,
-            count: 0,
-        },
+        Err(refused) => no_count(refused),
     }
 }
 
 // The count is 1 where the document is empty.
-pub fn of_empty(e: Empty) -> VerdictNumbers
-    ensures { result ≡ emptiness (document.said_empty e) }
+pub fn of_empty(e: Result<bool, Refused>) -> VerdictNumbers
+    ensures { result ≡ emptiness (placed e) }
 {
     match e {
-        Empty::Is(empty) => VerdictNumbers {
+        Ok(empty) => VerdictNumbers {
             number: 0,
             place: 0,
             count: empty as usize,
         },
-        Empty::Refused { number, place } => VerdictNumbers {
-            number: number as u32,
-            place,
-            count: 0,
-        },
+        Err(refused) => no_count(refused),
     }
 }
 
-pub fn of_joined(j: Joined) -> JoinedNumbers
+pub fn of_joined(j: Result<usize, NotJoined>) -> JoinedNumbers
     ensures { result ≡ joined (join.said j) }
 {
     match j {
-        Joined::Wrote(length) => JoinedNumbers {
+        Ok(length) => JoinedNumbers {
             number: 0,
             which: 0,
             place: 0,
             length,
         },
-        Joined::Refused {
-            number,
-            place,
-            which,
-        } => JoinedNumbers {
-            number: number as u32,
-            which: which as u32,
-            place,
+        Err(n) => JoinedNumbers {
+            number: n.refused.why.number() as u32,
+            which: n.which as u32,
+            place: n.refused.place,
             length: 0,
         },
     }
@@ -220,11 +218,12 @@ fn of_value(element: Element, value: Value) -> ValueNumbers
 }
 
 // A refusal, and what is known all the same: a tag and framed bytes.
-fn unread(number: u8, place: usize, tag: u8, framed: Part) -> ValueNumbers
-    ensures { result ≡ unvalued number place tag (said_part framed) }
+fn unread(refused: Option<Refused>, tag: u8, framed: Part) -> ValueNumbers
+    ensures { result ≡ unvalued (number_or_0 refused) (place_or_0 refused) tag (said_part framed) }
 {
+    let (number, place) = number_and_place(refused);
     ValueNumbers {
-        number: number as u32,
+        number,
         tag,
         place,
         framed_offset: framed.offset,
@@ -237,49 +236,32 @@ fn unread(number: u8, place: usize, tag: u8, framed: Part) -> ValueNumbers
     }
 }
 
-pub fn of_found(f: Found) -> ValueNumbers
-    ensures { result ≡ found (document.said f) }
+pub fn of_found(f: Result<Found, Refused>) -> ValueNumbers
+    ensures { result ≡ found (placed_by document.said_found f) }
 {
     match f {
-        Found::Refused { number, place } => unread(number, place, 0, Part { offset: 0, size: 0 }),
-        Found::Is { element, value } => of_value(element, value),
+        Err(refused) => unread(Some(refused), 0, Part { offset: 0, size: 0 }),
+        Ok(found) => of_value(found.element, found.value),
     }
 }
 
-pub fn of_step(s: Step) -> StepNumbers
-    ensures { result ≡ stepped (iter.said s) (iter.cursor_behind s) }
+// The number and the place of a refusal, 0 where there is none.
+fn number_and_place(refused: Option<Refused>) -> (u32, usize)
+    ensures { (result.0 ≡ number_or_0 refused) × (result.1 ≡ place_or_0 refused) }
 {
-    match s {
-        Step::Yield { element, next } => {
-            let key = element.key;
-            let framed = element.value;
-            StepNumbers {
-                number: 0,
-                tag: element.tag,
-                ended: next.ended,
-                place: element.place,
-                next: next.offset,
-                key_offset: key.offset,
-                key_size: key.size,
-                framed_offset: framed.offset,
-                framed_size: framed.size,
-            }
-        }
-        Step::End { next } => no_step(0, 0, next),
-        Step::Refused {
-            number,
-            place,
-            next,
-        } => no_step(number, place, next),
+    match refused {
+        None => (0, 0),
+        Some(refused) => (refused.why.number() as u32, refused.place),
     }
 }
 
-// A step that yields no element: its end or its refusal, and the cursor behind it.
-fn no_step(number: u8, place: usize, next: Cursor) -> StepNumbers
-    ensures { result ≡ no_step number place (iter.said_cursor next) }
+// A step that yields no element, at its end or by its refusal, and the cursor behind it.
+fn no_step(refused: Option<Refused>, next: Cursor) -> StepNumbers
+    ensures { result ≡ no_step (number_or_0 refused) (place_or_0 refused) (iter.said_cursor next) }
 {
+    let (number, place) = number_and_place(refused);
     StepNumbers {
-        number: number as u32,
+        number,
         tag: 0,
         ended: next.ended,
         place,
@@ -291,19 +273,40 @@ fn no_step(number: u8, place: usize, next: Cursor) -> StepNumbers
     }
 }
 
+pub fn of_step(s: Step) -> StepNumbers
+    ensures { result ≡ stepped (iter.said s) (iter.cursor_behind s) }
+{
+    let next = s.next;
+    match s.answer {
+        Ok(Some(element)) => StepNumbers {
+            number: 0,
+            tag: element.tag,
+            ended: next.ended,
+            place: element.place,
+            next: next.offset,
+            key_offset: element.key.offset,
+            key_size: element.key.size,
+            framed_offset: element.value.offset,
+            framed_size: element.value.size,
+        },
+        Ok(None) => no_step(None, next),
+        Err(refused) => no_step(Some(refused), next),
+    }
+}
+
 // The value of an element, or the refusal of its reading.
-fn of_reading(element: Element, read: Reading) -> ValueNumbers
-    ensures { result ≡ read_of (said_element element) (reading.said read) }
+fn of_reading(element: Element, read: Result<Value, Refused>) -> ValueNumbers
+    ensures { result ≡ read_of (said_element element) (placed_by said_value read) }
 {
     match read {
-        Reading::Refused { number, place } => unread(number, place, element.tag, element.value),
-        Reading::Is(value) => of_value(element, value),
+        Err(refused) => unread(Some(refused), element.tag, element.value),
+        Ok(value) => of_value(element, value),
     }
 }
 
 // An element that a step yields, with its value or why that could not be read, and the cursor behind the step.
-pub fn of_element(element: Element, read: Reading, next: Cursor) -> ElementNumbers
-    ensures { result ≡ yielded (said_element element) (reading.said read) (iter.said_cursor next) }
+pub fn of_element(element: Element, read: Result<Value, Refused>, next: Cursor) -> ElementNumbers
+    ensures { result ≡ yielded (said_element element) (placed_by said_value read) (iter.said_cursor next) }
 {
     let key = element.key;
     ElementNumbers {
@@ -316,12 +319,12 @@ pub fn of_element(element: Element, read: Reading, next: Cursor) -> ElementNumbe
 }
 
 // A step that yields no element, likewise.
-pub fn no_element(number: u8, place: usize, next: Cursor) -> ElementNumbers
-    ensures { result ≡ no_element number place (iter.said_cursor next) }
+pub fn no_element(refused: Option<Refused>, next: Cursor) -> ElementNumbers
+    ensures { result ≡ no_element (number_or_0 refused) (place_or_0 refused) (iter.said_cursor next) }
 {
     let nowhere = Part { offset: 0, size: 0 };
     ElementNumbers {
-        value: unread(number, place, 0, nowhere),
+        value: unread(refused, 0, nowhere),
         key_offset: 0,
         key_size: 0,
         next: next.offset,
@@ -329,26 +332,22 @@ pub fn no_element(number: u8, place: usize, next: Cursor) -> ElementNumbers
     }
 }
 
-pub fn of_shown(s: Shown) -> ShownNumbers
-    ensures { result ≡ shown (lossy.said s) }
+pub fn of_shown(s: Result<Shown, Refused>) -> ShownNumbers
+    ensures { result ≡ shown (placed_by lossy.said_shown s) }
 {
     match s {
-        Shown::Wrote {
-            element,
-            size,
-            second: behind,
-        } => ShownNumbers {
+        Ok(shown) => ShownNumbers {
             number: 0,
-            tag: element.tag,
-            place: element.place,
-            length: size,
-            offset2: behind.offset,
-            size2: behind.size,
+            tag: shown.element.tag,
+            place: shown.element.place,
+            length: shown.size,
+            offset2: shown.second.offset,
+            size2: shown.second.size,
         },
-        Shown::Refused { number, place } => ShownNumbers {
-            number: number as u32,
+        Err(refused) => ShownNumbers {
+            number: refused.why.number() as u32,
             tag: 0,
-            place,
+            place: refused.place,
             length: 0,
             offset2: 0,
             size2: 0,
@@ -356,18 +355,18 @@ pub fn of_shown(s: Shown) -> ShownNumbers
     }
 }
 
-// The number that a writer's call returned, and the bytes used in the state that it left.
-pub fn of_written(number: u8, words: &Words) -> WrittenNumbers
-    ensures { result ≡ written_by number words.now }
+// What a writer's call returned, and the bytes used in the state that it left.
+pub fn of_written(done: Result<(), Refusal>, words: &Words) -> WrittenNumbers
+    ensures { result ≡ written_by (number_in done) words.now }
 {
-    if number == 0 {
-        return WrittenNumbers {
+    match done {
+        Ok(()) => WrittenNumbers {
             number: 0,
             used: writer_state::used(words),
-        };
-    }
-    WrittenNumbers {
-        number: number as u32,
-        used: 0,
+        },
+        Err(why) => WrittenNumbers {
+            number: why.number() as u32,
+            used: 0,
+        },
     }
 }

@@ -1,3 +1,2 @@
 pub mod Determined
-pub mod Limits
 pub mod Plain

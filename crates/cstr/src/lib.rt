@@ -1,14 +1,14 @@
 // Zero-ended texts at the front of a part, and keys (src/raw.rs and src/raw/cstr.rs of the Rust).
-#![tactic(auto)]
+#![tactic(auto, unfolding(bson::specs::Cstring::zero_text, bson::specs::Cstring::cstring_under, bson::specs::Cstring::valid_cstr))]
 
 ghost use Rattle.std.specs.Prelude.{◌≡◌, ◌+◌, ◌≤◌, eqb, ltb, length, drop};
 ghost use Rattle.bson.specs.Bytes.{same};
 ghost use Rattle.bson.specs.Cstring.{first_zero, seen, missing, zero_text, cstring_under, cstring, valid_cstr};
-ghost use Rattle.part.specs.Said.{said_length};
-ghost use Rattle.cstr.specs.Said.{limit_of, capped};
+ghost use Rattle.refusal.specs.Said.{number, said};
+ghost use Rattle.cstr.specs.Said.{limit_of};
 ghost use Rattle.cstr.specs.Scan.{stops_at, plain, PlainOf};
 
-use part::Length;
+use refusal::Refusal;
 
 // A zero byte, or one that is not ASCII.
 fn stops(b: u8) -> bool
@@ -22,14 +22,12 @@ fn plain_rest(v: &[u8], from: usize) -> usize
     requires { from ≤ length v.now }
     ensures { result ≡ from + plain (drop from v.now) }
 {
-    let mut i = from;
-    while i < v.len() {
+    for i in from..v.len() {
         if stops(v[i]) {
             return i;
         }
-        i += 1;
     }
-    i
+    v.len()
 }
 
 // How many of two bytes stand before the first that stops.
@@ -77,85 +75,72 @@ fn plain_end(v: &[u8]) -> usize
 pub fn first_zero(text: &[u8]) -> usize
     ensures { result ≡ first_zero text.now }
 {
-    let mut i = 0;
-    while i < text.len() {
+    for i in 0..text.len() {
         if text[i] == 0 {
             return i;
         }
-        i += 1;
     }
-    i
-}
-
-// The number for no limit, where one is asked for that says how many bytes a zero-ended text may have.
-pub const NO_LIMIT: usize = 18446744073709551615;
-
-// The number for a limit that is set. The largest says none: the one below it stands for it, which no slice is as long as.
-pub fn most_of(limit: usize) -> usize
-    ensures { result ≡ capped limit }
-{
-    if limit == NO_LIMIT {
-        return NO_LIMIT - 1;
-    }
-    limit
+    text.len()
 }
 
 // What a limit lets be looked at.
-fn cut<'a>(v: &'a [u8], limit: usize) -> &'a [u8]
+fn cut<'a>(v: &'a [u8], limit: Option<usize>) -> &'a [u8]
     ensures { result.now ≡ seen (limit_of limit) v.now }
 {
-    if limit < v.len() {
-        let end = limit + 1;
-        return &v[..end];
+    match limit {
+        Some(most) if most < v.len() => {
+            let end = most + 1;
+            &v[..end]
+        }
+        _ => v,
     }
-    v
 }
 
-// The number of a text without a zero byte.
-fn number_of(limit: usize) -> u8
-    ensures { result ≡ missing (limit_of limit) }
+// Why a text without a zero byte is refused: 5, under a limit 22.
+fn missing(limit: Option<usize>) -> Refusal
+    ensures { number result ≡ missing (limit_of limit) }
 {
-    if limit == NO_LIMIT {
-        return 5;
+    match limit {
+        None => Refusal::NoZero,
+        Some(_) => Refusal::TooLong,
     }
-    22
 }
 
 // Two passes: the zero byte, then UTF-8.
-fn read_mixed(v: &[u8], number: u8) -> Length
-    ensures { said_length result ≡ zero_text number v.now }
+fn read_mixed(v: &[u8], missing: Refusal) -> Result<usize, Refusal>
+    ensures { said result ≡ zero_text (number missing) v.now }
 {
     let n = first_zero(v);
     if n < v.len() {
         if utf8::is_utf8(&v[..n]) {
-            return Length::Is(n);
+            return Ok(n);
         }
-        return Length::Refused(6);
+        return Err(Refusal::NotUtf8);
     }
-    Length::Refused(number)
+    Err(missing)
 }
 
 // The size of the text in front of the first zero byte: 5 where there is none, 6 where the text is not UTF-8. Under a limit so many bytes
 // and one more are looked at: 22 where no zero is among them.
-pub fn read_cstring_with_max_len(buf: &[u8], limit: usize) -> Length
-    ensures { said_length result ≡ cstring_under (limit_of limit) buf.now }
+pub fn read_cstring_with_max_len(buf: &[u8], limit: Option<usize>) -> Result<usize, Refusal>
+    ensures { said result ≡ cstring_under (limit_of limit) buf.now }
 {
     let v = cut(buf, limit);
     let i = plain_end(v);
     if i < v.len() {
         if v[i] == 0 {
-            return Length::Is(i);
+            return Ok(i);
         }
-        return read_mixed(v, number_of(limit));
+        return read_mixed(v, missing(limit));
     }
-    Length::Refused(number_of(limit))
+    Err(missing(limit))
 }
 
 // The same without a limit: 5, 6.
-pub fn read_cstring(v: &[u8]) -> Length
-    ensures { said_length result ≡ cstring v.now }
+pub fn read_cstring(v: &[u8]) -> Result<usize, Refusal>
+    ensures { said result ≡ cstring v.now }
 {
-    read_cstring_with_max_len(v, NO_LIMIT)
+    read_cstring_with_max_len(v, None)
 }
 
 // Whether one of four bytes stops. With `|` all tests lead to one branch.
@@ -204,15 +189,5 @@ pub fn is_valid_cstr(k: &[u8]) -> bool
 pub fn equal(a: &[u8], b: &[u8]) -> bool
     ensures { result ≡ same a.now b.now }
 {
-    if a.len() != b.len() {
-        return false;
-    }
-    let mut i = 0;
-    while i < a.len() {
-        if a[i] != b[i] {
-            return false;
-        }
-        i += 1;
-    }
-    true
+    a == b
 }

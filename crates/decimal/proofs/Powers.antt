@@ -1,7 +1,7 @@
 -- Powers: the code's table holds the powers of ten, by one computed test, and what a turn of each loop over it
 -- leaves (RULES.md, request 5).
 use Prim.Native.Nat.{ℕ, suc, ◌+◌, ◌-◌, ◌*◌, ◌%◌, ◌^◌, ◌≤◌, ◌<◌}
-use mathlib.Core.Path.{◌≡◌, sym, ap, ◌∙◌}
+use mathlib.Core.Path.{◌≡◌, refl, sym, ap, ◌∙◌}
 use mathlib.Core.Bool.{true}
 use mathlib.Core.List.{List}
 use native.Mathlib.Nat.{add-mul, one-mul, lt_of_mul-lt-mul_right}
@@ -14,11 +14,16 @@ use Rattle.laws.proofs.Common.{below, below_at}
 use Rattle.laws.proofs.DecimalLaws.{length_digits, digits_lead}
 use Rattle.laws.proofs.OutputLaws.{put_byte, put_lead}
 use Rattle.decimal.specs.Powers.{PowersOfTen}
+use Rattle.decimal.specs.declared.TheConstants.{POWERS}
 
 -- one test over a whole table
 pub computed_powers : {powers : List ℕ} → below (λ i. eqb (get_or powers i 0) (10 ^ i)) (length powers) ≡ true → PowersOfTen powers
 computed_powers {powers} t =
     record { power_at = λ i h. eqb→eq _ _ (below_at (λ i. eqb (get_or powers i 0) (10 ^ i)) (length powers) (rw t tt) i h) }
+
+-- of the code's own
+pub table : PowersOfTen POWERS
+table = computed_powers refl
 
 -- how often a power has gone into a number, and what is left
 module _ (n power digit rest : ℕ) (sum : n ≡ digit * power + rest) where

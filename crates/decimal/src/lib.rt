@@ -4,11 +4,13 @@
 
 ghost use Rattle.std.specs.Prelude.{◌≡◌, ◌+◌, ◌*◌, ◌^◌, ◌≤◌, ◌<◌, length};
 ghost use Rattle.bson.specs.Decimal.{digits, width, decimal};
-ghost use Rattle.bson.specs.Output.{output, put, put_text};
-ghost use Rattle.decimal.specs.Powers.{PowersOfTen};
+ghost use Rattle.bson.specs.Output.{put};
+ghost use Rattle.output.specs.Puts.{Puts};
+
+use output::Output;
 
 // The powers of ten below 2^64.
-const POWERS: [usize; 20] = [
+static POWERS: [usize; 20] = [
     1,
     10,
     100,
@@ -31,35 +33,14 @@ const POWERS: [usize; 20] = [
     10_000_000_000_000_000_000,
 ];
 
-// The table, for a function's own local: each use of a constant stores it anew.
-fn powers_of_ten() -> [usize; 20]
-    ensures { PowersOfTen result }
-{
-    POWERS
-}
-
-// The powers below 2^32, for which a third of the instructions do: no place in a document and no key of an array needs another.
-fn low_powers() -> [usize; 10]
-    ensures { PowersOfTen result }
-{
-    let powers = POWERS;
-    [
-        powers[0], powers[1], powers[2], powers[3], powers[4], powers[5], powers[6], powers[7],
-        powers[8], powers[9],
-    ]
-}
-
 // How many digits a number has: one more than the zeros of the greatest power that is not above it, and of zero one.
 pub fn width_of(n: usize) -> usize
     ensures { (result ≡ width n) × (result ≤ 20) }
 {
-    let powers = powers_of_ten();
-    let mut k = 1;
-    while k < 20 {
-        if n < powers[k] {
+    for k in 1..20 {
+        if n < POWERS[k] {
             return k;
         }
-        k += 1;
     }
     20
 }
@@ -85,17 +66,22 @@ fn lead(n: usize, power: usize) -> Split
     Split { digit, rest }
 }
 
-// Writes the k digits of a number that has no more, from the first on, where they fit: each is how often its power goes into what the ones
-// before it have left, and the last is what is left of all.
-fn put_by(powers: &[usize], out: &mut [u8], at: usize, n: usize, k: usize)
-    requires { PowersOfTen powers.now × (k ≤ length powers.now) × (at + k ≤ length out.old) × (0 < k) × (n < 10 ^ k) }
+// Writes the k digits of a number that has no more, where they fit: one is the number, which most keys of arrays have, and is not to pay for
+// the loop. Else each is how often its power goes into what the ones before it have left, and the last is what is left of all. By a `for`,
+// which counts one of the two, each digit takes two instructions more.
+fn put_digits(out: &mut [u8], at: usize, n: usize, k: usize)
+    requires { (at + k ≤ length out.old) × (0 < k) × (k ≤ 20) × (n < 10 ^ k) }
     ensures { out.new ≡ put out.old at (digits k n) }
 {
+    if k == 1 {
+        out[at] = 48 + n as u8;
+        return;
+    }
     let mut rest = n;
     let mut place = at;
     let mut zeros = k - 1;
     while 0 < zeros {
-        let first = lead(rest, powers[zeros]);
+        let first = lead(rest, POWERS[zeros]);
         out[place] = 48 + first.digit;
         rest = first.rest;
         place += 1;
@@ -104,30 +90,13 @@ fn put_by(powers: &[usize], out: &mut [u8], at: usize, n: usize, k: usize)
     out[place] = 48 + rest as u8;
 }
 
-// Writes the k digits of a number that has no more, where they fit, with as much of the table as they need: one digit needs none.
-fn put_digits(out: &mut [u8], at: usize, n: usize, k: usize)
-    requires { (at + k ≤ length out.old) × (0 < k) × (k ≤ 20) × (n < 10 ^ k) }
-    ensures { out.new ≡ put out.old at (digits k n) }
-{
-    if k == 1 {
-        out[at] = 48 + n as u8;
-    } else if k <= 10 {
-        let powers = low_powers();
-        put_by(&powers, out, at, n, k);
-    } else {
-        let powers = powers_of_ten();
-        put_by(&powers, out, at, n, k);
-    }
-}
-
-// Puts a number at an offset; the offset behind it, or the same where it does not fit and nothing is written.
-pub fn put_decimal(out: &mut [u8], at: usize, n: usize) -> usize
-    ensures { output out.new result ≡ put_text (output out.old at) (decimal n) }
+// Puts a number behind the used bytes, or nothing where it does not fit.
+pub fn put_decimal(output: &mut Output, n: usize)
+    ensures { Puts output.old output.new (decimal n) }
 {
     let k = width_of(n);
-    if output::fits(out.len(), at, k) {
-        put_digits(out, at, n, k);
-        return at + k;
+    if output::fits(output.buffer.len(), output.used, k) {
+        put_digits(output.buffer, output.used, n, k);
+        output.used += k;
     }
-    at
 }

@@ -3,21 +3,20 @@
 
 ghost use Rattle.std.specs.Prelude.{◌≤◌, length};
 
-use doc_writer::scalars;
-use join::Joined;
+use doc_writer::DocWriter;
 use part::Part;
+use refusal::Refusal;
 use std::io;
 use std::io::Read;
-use typed::I32;
-use whole::Verdict;
 
 fn passes(rt: &impl Print, frame: &[u8]) -> io::Result<bool> {
-    match whole::check(frame) {
-        Verdict::Accepted(values) => {
+    match whole::check(frame, None) {
+        Ok(values) => {
             println!(rt; "accepted, values: {values}")?;
             Ok(true)
         }
-        Verdict::Refused { number, .. } => {
+        Err(refused) => {
+            let number = refused.why.number();
             println!(rt; "refused by {number}")?;
             Ok(false)
         }
@@ -27,26 +26,32 @@ fn passes(rt: &impl Print, frame: &[u8]) -> io::Result<bool> {
 // Of a frame that passed the number is 16, absent, or 17, of another type.
 fn look_up(rt: &impl Print, frame: &[u8]) -> io::Result<()> {
     match typed::get_i32(frame, b"battery") {
-        I32::Is(millivolts) => {
+        Ok(millivolts) => {
             let low = u8::from(millivolts < 6600);
             println!(rt; "battery low: {low}")
         }
-        I32::Refused { number, .. } => println!(rt; "no battery: {number}"),
+        Err(refused) => {
+            let number = refused.why.number();
+            println!(rt; "no battery: {number}")
+        }
     }
 }
 
-// { "rssi": -97 } behind the frame's elements. A refused call of the writer changes nothing.
-fn add_field(rt: &impl Print, out: &mut [u8], frame: &[u8]) -> io::Result<()> {
+// Writes { "rssi": -97 }; how many bytes it has.
+fn write_field(out: &mut [u8]) -> Result<usize, Refusal> {
+    let mut w = DocWriter::new();
+    w.open(out)?;
+    w.append_int32(out, b"rssi", -97)?;
+    w.close(out)?;
+    Ok(w.words[0] as usize)
+}
+
+// Joins the field behind the frame's elements; how many bytes both have.
+fn add_field(out: &mut [u8], frame: &[u8]) -> Result<usize, Refusal> {
     let mut field = [0; 64];
-    let w = doc_writer::open(&mut field, doc_writer::new()).writer;
-    let w = scalars::append_int32(&mut field, w, b"rssi", -97).writer;
-    let w = doc_writer::close(&mut field, w).writer;
-    let size = w.words[0] as usize;
+    let size = write_field(&mut field)?;
     let written = part::bytes_of(&field, Part { offset: 0, size });
-    match join::join(out, frame, written) {
-        Joined::Wrote(length) => println!(rt; "joined, bytes: {length}"),
-        Joined::Refused { number, .. } => println!(rt; "not joined: {number}"),
-    }
+    join::join(out, frame, written).map_err(|not_joined| not_joined.refused.why)
 }
 
 // Reads to the end of the input, to a failed read or until full; how many bytes there are then.
@@ -74,7 +79,10 @@ fn main(rt: HostRuntime) -> io::Result<()> {
     if passes(&rt, frame)? {
         look_up(&rt, frame)?;
         let mut out = [0; 65600];
-        add_field(&rt, &mut out, frame)?;
+        match add_field(&mut out, frame) {
+            Ok(length) => println!(rt; "joined, bytes: {length}")?,
+            Err(why) => println!(rt; "not joined: {}", why.number())?,
+        }
     }
     Ok(())
 }

@@ -1,3 +1,2 @@
 mod Limits
-pub mod Through
 pub mod Determined

@@ -28,16 +28,12 @@ abbrev pub reads : List ℕ → Cursor → ElementNumbers
 reads s c = reads_under unlimited s c
 
 -- an answer, and the buffer that is left
-abbrev pub left : JoinedNumbers → List ℕ → JoinedNumbers × List ℕ
+abbrev pub left : {A : Type 0} → A → List ℕ → A × List ℕ
 left answer buffer = (answer, buffer)
-
--- the same of a text that is shown
-abbrev pub left_shown : ShownNumbers → List ℕ → ShownNumbers × List ℕ
-left_shown answer buffer = (answer, buffer)
 
 -- the text at a place, as it is shown
 abbrev pub shows_under : Limit → List ℕ → ℕ → List ℕ → ShownNumbers × List ℕ
-shows_under limit s place buffer = left_shown (shown (read_lossy_under limit s place buffer).answer) (read_lossy_under limit s place buffer).left
+shows_under limit s place buffer = left (shown (read_lossy_under limit s place buffer).answer) (read_lossy_under limit s place buffer).left
 
 abbrev pub shows : List ℕ → ℕ → List ℕ → ShownNumbers × List ℕ
 shows s place buffer = shows_under unlimited s place buffer

@@ -1,6 +1,6 @@
 // The functions that the C service calls: byte slices and numbers in, structs of numbers out (RULES.md, module 8). Each is one call of
 // what it is named for; what it answers in numbers is in `c_answers`. `fringewell_c` hands each to C, by the same name.
-#![tactic(auto)]
+#![tactic(auto, unfolding(crate::specs::Left::performs, bson::specs::Writer::fresh))]
 
 ghost use Rattle.std.specs.Prelude.{◌≡◌, true, false};
 ghost use Rattle.bson.specs.Check.{check_under, check};
@@ -12,41 +12,41 @@ ghost use Rattle.bson.specs.Step.{cursor};
 ghost use Rattle.bson.specs.Value as value;
 ghost use Rattle.bson.specs.Writer as writer;
 ghost use Rattle.c_answers.specs.Numbers.{verdict, emptiness, found};
-ghost use Rattle.fringewell.specs.Left.{steps_under, steps, reads_under, reads, left, left_shown, shows_under, shows, joins, leaves, performs};
+ghost use Rattle.fringewell.specs.Left.{steps_under, steps, reads_under, reads, left, shows_under, shows, joins, leaves, performs};
 
 use c_answers::{
     ElementNumbers, JoinedNumbers, ShownNumbers, StepNumbers, ValueNumbers, VerdictNumbers,
     WrittenNumbers,
 };
-use iter::{Cursor, Step};
+use iter::Cursor;
 use writer_state::Words;
 
 // The plain check.
 pub fn fringewell_check(document: &[u8]) -> VerdictNumbers
     ensures { result ≡ verdict (check false document.now) }
 {
-    c_answers::of_verdict(whole::check(document))
+    c_answers::of_verdict(whole::check(document, None))
 }
 
 // The plain check, under a limit on keys, patterns and options.
 pub fn fringewell_check_under(document: &[u8], limit: usize) -> VerdictNumbers
     ensures { result ≡ verdict (check_under (most limit) false document.now) }
 {
-    c_answers::of_verdict(whole::check_under(document, cstr::most_of(limit)))
+    c_answers::of_verdict(whole::check(document, Some(limit)))
 }
 
 // The strict check.
 pub fn fringewell_check_strict(document: &[u8]) -> VerdictNumbers
     ensures { result ≡ verdict (check true document.now) }
 {
-    c_answers::of_verdict(whole::check_strict(document))
+    c_answers::of_verdict(whole::check_strict(document, None))
 }
 
 // The strict check, under a limit.
 pub fn fringewell_check_strict_under(document: &[u8], limit: usize) -> VerdictNumbers
     ensures { result ≡ verdict (check_under (most limit) true document.now) }
 {
-    c_answers::of_verdict(whole::check_strict_under(document, cstr::most_of(limit)))
+    c_answers::of_verdict(whole::check_strict(document, Some(limit)))
 }
 
 // Admission, and whether the document has no element.
@@ -60,21 +60,21 @@ pub fn fringewell_is_empty(document: &[u8]) -> VerdictNumbers
 pub fn fringewell_lookup(document: &[u8], key: &[u8]) -> ValueNumbers
     ensures { result ≡ found (get document.now key.now) }
 {
-    c_answers::of_found(document::get_element(document, key))
+    c_answers::of_found(document::get_element(document, key, None))
 }
 
 // The first element of a key, under a limit.
 pub fn fringewell_lookup_under(document: &[u8], key: &[u8], limit: usize) -> ValueNumbers
     ensures { result ≡ found (get_under (most limit) document.now key.now) }
 {
-    c_answers::of_found(document::get_element_under(document, key, cstr::most_of(limit)))
+    c_answers::of_found(document::get_element(document, key, Some(limit)))
 }
 
 // The first element of a key, whose value must have this tag.
 pub fn fringewell_lookup_typed(document: &[u8], key: &[u8], tag: u8) -> ValueNumbers
     ensures { result ≡ found (get_with document.now key.now tag) }
 {
-    c_answers::of_found(document::get_with(document, key, tag))
+    c_answers::of_found(document::get_with(document, key, tag, None))
 }
 
 // The first element of a key, whose value must have this tag, under a limit.
@@ -86,28 +86,28 @@ pub fn fringewell_lookup_typed_under(
 ) -> ValueNumbers
     ensures { result ≡ found (get_with_under (most limit) document.now key.now tag) }
 {
-    c_answers::of_found(document::get_with_under(document, key, tag, cstr::most_of(limit)))
+    c_answers::of_found(document::get_with(document, key, tag, Some(limit)))
 }
 
 // What a path leads to.
 pub fn fringewell_path(document: &[u8], path: &[u8]) -> ValueNumbers
     ensures { result ≡ found (get_path document.now path.now) }
 {
-    c_answers::of_found(path::get_element(document, path))
+    c_answers::of_found(path::get_element(document, path, None))
 }
 
 // What a path leads to, under a limit.
 pub fn fringewell_path_under(document: &[u8], path: &[u8], limit: usize) -> ValueNumbers
     ensures { result ≡ found (get_path_under (most limit) document.now path.now) }
 {
-    c_answers::of_found(path::get_element_under(document, path, cstr::most_of(limit)))
+    c_answers::of_found(path::get_element(document, path, Some(limit)))
 }
 
 // What a path leads to, whose value must have this tag.
 pub fn fringewell_path_typed(document: &[u8], path: &[u8], tag: u8) -> ValueNumbers
     ensures { result ≡ found (get_path_with document.now path.now tag) }
 {
-    c_answers::of_found(path::get_with(document, path, tag))
+    c_answers::of_found(path::get_with(document, path, tag, None))
 }
 
 // What a path leads to, whose value must have this tag, under a limit.
@@ -119,14 +119,14 @@ pub fn fringewell_path_typed_under(
 ) -> ValueNumbers
     ensures { result ≡ found (get_path_with_under (most limit) document.now path.now tag) }
 {
-    c_answers::of_found(path::get_with_under(document, path, tag, cstr::most_of(limit)))
+    c_answers::of_found(path::get_with(document, path, tag, Some(limit)))
 }
 
 // The step at a cursor, and the cursor behind it.
 pub fn fringewell_step(document: &[u8], offset: usize, ended: bool) -> StepNumbers
     ensures { result ≡ steps document.now (cursor offset ended) }
 {
-    c_answers::of_step(iter::next(document, Cursor { offset, ended }))
+    c_answers::of_step(iter::next(document, Cursor { offset, ended }, None))
 }
 
 // The step at a cursor, under a limit.
@@ -138,8 +138,7 @@ pub fn fringewell_step_under(
 ) -> StepNumbers
     ensures { result ≡ steps_under (most limit) document.now (cursor offset ended) }
 {
-    let most = cstr::most_of(limit);
-    c_answers::of_step(iter::next_under(document, Cursor { offset, ended }, most))
+    c_answers::of_step(iter::next(document, Cursor { offset, ended }, Some(limit)))
 }
 
 // The element at a cursor, its value, and the cursor behind it: a step, and the reading of what it yields. That it is written out here and
@@ -147,16 +146,13 @@ pub fn fringewell_step_under(
 pub fn fringewell_next(document: &[u8], offset: usize, ended: bool) -> ElementNumbers
     ensures { result ≡ reads document.now (cursor offset ended) }
 {
-    match iter::next(document, Cursor { offset, ended }) {
-        Step::Yield { element, next } => {
-            c_answers::of_element(element, reading::value_of(document, element), next)
+    let step = iter::next(document, Cursor { offset, ended }, None);
+    match step.answer {
+        Ok(Some(element)) => {
+            c_answers::of_element(element, reading::value_of(document, element), step.next)
         }
-        Step::End { next } => c_answers::no_element(0, 0, next),
-        Step::Refused {
-            number,
-            place,
-            next,
-        } => c_answers::no_element(number, place, next),
+        Ok(None) => c_answers::no_element(None, step.next),
+        Err(refused) => c_answers::no_element(Some(refused), step.next),
     }
 }
 
@@ -169,17 +165,13 @@ pub fn fringewell_next_under(
 ) -> ElementNumbers
     ensures { result ≡ reads_under (most limit) document.now (cursor offset ended) }
 {
-    let most = cstr::most_of(limit);
-    match iter::next_under(document, Cursor { offset, ended }, most) {
-        Step::Yield { element, next } => {
-            c_answers::of_element(element, reading::value_of(document, element), next)
+    let step = iter::next(document, Cursor { offset, ended }, Some(limit));
+    match step.answer {
+        Ok(Some(element)) => {
+            c_answers::of_element(element, reading::value_of(document, element), step.next)
         }
-        Step::End { next } => c_answers::no_element(0, 0, next),
-        Step::Refused {
-            number,
-            place,
-            next,
-        } => c_answers::no_element(number, place, next),
+        Ok(None) => c_answers::no_element(None, step.next),
+        Err(refused) => c_answers::no_element(Some(refused), step.next),
     }
 }
 
@@ -187,21 +179,21 @@ pub fn fringewell_next_under(
 pub fn fringewell_read(document: &[u8], place: usize) -> ValueNumbers
     ensures { result ≡ found (get_at document.now place) }
 {
-    c_answers::of_found(document::element_at(document, place))
+    c_answers::of_found(document::element_at(document, place, None))
 }
 
 // The same, under a limit.
 pub fn fringewell_read_under(document: &[u8], place: usize, limit: usize) -> ValueNumbers
     ensures { result ≡ found (get_at_under (most limit) document.now place) }
 {
-    c_answers::of_found(document::element_at_under(document, place, cstr::most_of(limit)))
+    c_answers::of_found(document::element_at(document, place, Some(limit)))
 }
 
 // The text of the element at a place, with EF BF BD for each maximal bad part, at the front of a lent buffer.
 pub fn fringewell_read_lossy(document: &[u8], place: usize, out: &mut [u8]) -> ShownNumbers
-    ensures { left_shown result out.new ≡ shows document.now place out.old }
+    ensures { left result out.new ≡ shows document.now place out.old }
 {
-    c_answers::of_shown(lossy::read_utf8_lossy(out, document, place))
+    c_answers::of_shown(lossy::read_utf8_lossy(out, document, place, None))
 }
 
 // The same, under a limit.
@@ -211,10 +203,9 @@ pub fn fringewell_read_lossy_under(
     out: &mut [u8],
     limit: usize,
 ) -> ShownNumbers
-    ensures { left_shown result out.new ≡ shows_under (most limit) document.now place out.old }
+    ensures { left result out.new ≡ shows_under (most limit) document.now place out.old }
 {
-    let most = cstr::most_of(limit);
-    c_answers::of_shown(lossy::read_utf8_lossy_under(out, document, place, most))
+    c_answers::of_shown(lossy::read_utf8_lossy(out, document, place, Some(limit)))
 }
 
 // Both documents as one, at the front of a lent buffer.
@@ -252,8 +243,8 @@ pub fn fringewell_state_open(words: &mut Words, out: &mut [u8]) -> WrittenNumber
     ensures { leaves result words.new out.new
         ≡ performs (writer.open_top) words.old out.old }
 {
-    let number = nesting::open_top(out, words);
-    c_answers::of_written(number, words)
+    let done = nesting::open_top(out, words);
+    c_answers::of_written(done, words)
 }
 
 // Opens a document in the innermost.
@@ -265,8 +256,8 @@ pub fn fringewell_state_open_document(
     ensures { leaves result words.new out.new
         ≡ performs (writer.open_nest grammar.document key.now) words.old out.old }
 {
-    let number = nesting::open_document(out, words, key);
-    c_answers::of_written(number, words)
+    let done = nesting::open_document(out, words, key);
+    c_answers::of_written(done, words)
 }
 
 // Opens an array in the innermost.
@@ -274,8 +265,8 @@ pub fn fringewell_state_open_array(words: &mut Words, out: &mut [u8], key: &[u8]
     ensures { leaves result words.new out.new
         ≡ performs (writer.open_nest grammar.array key.now) words.old out.old }
 {
-    let number = nesting::open_array(out, words, key);
-    c_answers::of_written(number, words)
+    let done = nesting::open_array(out, words, key);
+    c_answers::of_written(done, words)
 }
 
 // Closes the innermost.
@@ -283,8 +274,8 @@ pub fn fringewell_state_close(words: &mut Words, out: &mut [u8]) -> WrittenNumbe
     ensures { leaves result words.new out.new
         ≡ performs (writer.close) words.old out.old }
 {
-    let number = nesting::close(out, words);
-    c_answers::of_written(number, words)
+    let done = nesting::close(out, words);
+    c_answers::of_written(done, words)
 }
 
 // Appends a double by its bits.
@@ -297,8 +288,8 @@ pub fn fringewell_state_append_double(
     ensures { leaves result words.new out.new
         ≡ performs (writer.append key.now (value.double bits)) words.old out.old }
 {
-    let number = append_scalars::append_double(out, words, key, bits);
-    c_answers::of_written(number, words)
+    let done = append_scalars::append_double(out, words, key, bits);
+    c_answers::of_written(done, words)
 }
 
 // Appends a boolean.
@@ -311,8 +302,8 @@ pub fn fringewell_state_append_bool(
     ensures { leaves result words.new out.new
         ≡ performs (writer.append key.now (value.boolean b)) words.old out.old }
 {
-    let number = append_scalars::append_bool(out, words, key, b);
-    c_answers::of_written(number, words)
+    let done = append_scalars::append_bool(out, words, key, b);
+    c_answers::of_written(done, words)
 }
 
 // Appends an int32.
@@ -325,8 +316,8 @@ pub fn fringewell_state_append_int32(
     ensures { leaves result words.new out.new
         ≡ performs (writer.append key.now (value.int32 n)) words.old out.old }
 {
-    let number = append_scalars::append_int32(out, words, key, n);
-    c_answers::of_written(number, words)
+    let done = append_scalars::append_int32(out, words, key, n);
+    c_answers::of_written(done, words)
 }
 
 // Appends an int64.
@@ -339,8 +330,8 @@ pub fn fringewell_state_append_int64(
     ensures { leaves result words.new out.new
         ≡ performs (writer.append key.now (value.int64 n)) words.old out.old }
 {
-    let number = append_scalars::append_int64(out, words, key, n);
-    c_answers::of_written(number, words)
+    let done = append_scalars::append_int64(out, words, key, n);
+    c_answers::of_written(done, words)
 }
 
 // Appends a datetime, in milliseconds since 1970.
@@ -353,8 +344,8 @@ pub fn fringewell_state_append_datetime(
     ensures { leaves result words.new out.new
         ≡ performs (writer.append key.now (value.date_time n)) words.old out.old }
 {
-    let number = append_scalars::append_datetime(out, words, key, n);
-    c_answers::of_written(number, words)
+    let done = append_scalars::append_datetime(out, words, key, n);
+    c_answers::of_written(done, words)
 }
 
 // Appends a timestamp.
@@ -368,8 +359,8 @@ pub fn fringewell_state_append_timestamp(
     ensures { leaves result words.new out.new
         ≡ performs (writer.append key.now (value.timestamp increment seconds)) words.old out.old }
 {
-    let number = append_scalars::append_timestamp(out, words, key, increment, seconds);
-    c_answers::of_written(number, words)
+    let done = append_scalars::append_timestamp(out, words, key, increment, seconds);
+    c_answers::of_written(done, words)
 }
 
 // Appends a null.
@@ -377,8 +368,8 @@ pub fn fringewell_state_append_null(words: &mut Words, out: &mut [u8], key: &[u8
     ensures { leaves result words.new out.new
         ≡ performs (writer.append key.now value.null) words.old out.old }
 {
-    let number = append_scalars::append_null(out, words, key);
-    c_answers::of_written(number, words)
+    let done = append_scalars::append_null(out, words, key);
+    c_answers::of_written(done, words)
 }
 
 // Appends an undefined.
@@ -390,8 +381,8 @@ pub fn fringewell_state_append_undefined(
     ensures { leaves result words.new out.new
         ≡ performs (writer.append key.now value.undefined) words.old out.old }
 {
-    let number = append_scalars::append_undefined(out, words, key);
-    c_answers::of_written(number, words)
+    let done = append_scalars::append_undefined(out, words, key);
+    c_answers::of_written(done, words)
 }
 
 // Appends a min key.
@@ -403,8 +394,8 @@ pub fn fringewell_state_append_min_key(
     ensures { leaves result words.new out.new
         ≡ performs (writer.append key.now value.min_key) words.old out.old }
 {
-    let number = append_scalars::append_min_key(out, words, key);
-    c_answers::of_written(number, words)
+    let done = append_scalars::append_min_key(out, words, key);
+    c_answers::of_written(done, words)
 }
 
 // Appends a max key.
@@ -416,8 +407,8 @@ pub fn fringewell_state_append_max_key(
     ensures { leaves result words.new out.new
         ≡ performs (writer.append key.now value.max_key) words.old out.old }
 {
-    let number = append_scalars::append_max_key(out, words, key);
-    c_answers::of_written(number, words)
+    let done = append_scalars::append_max_key(out, words, key);
+    c_answers::of_written(done, words)
 }
 
 // Appends a string.
@@ -430,8 +421,8 @@ pub fn fringewell_state_append_string(
     ensures { leaves result words.new out.new
         ≡ performs (writer.append key.now (value.string text.now)) words.old out.old }
 {
-    let number = append_bytes::append_string(out, words, key, text);
-    c_answers::of_written(number, words)
+    let done = append_bytes::append_string(out, words, key, text);
+    c_answers::of_written(done, words)
 }
 
 // Appends JavaScript code.
@@ -444,8 +435,8 @@ pub fn fringewell_state_append_code(
     ensures { leaves result words.new out.new
         ≡ performs (writer.append key.now (value.code text.now)) words.old out.old }
 {
-    let number = append_bytes::append_code(out, words, key, text);
-    c_answers::of_written(number, words)
+    let done = append_bytes::append_code(out, words, key, text);
+    c_answers::of_written(done, words)
 }
 
 // Appends a symbol.
@@ -458,8 +449,8 @@ pub fn fringewell_state_append_symbol(
     ensures { leaves result words.new out.new
         ≡ performs (writer.append key.now (value.symbol text.now)) words.old out.old }
 {
-    let number = append_bytes::append_symbol(out, words, key, text);
-    c_answers::of_written(number, words)
+    let done = append_bytes::append_symbol(out, words, key, text);
+    c_answers::of_written(done, words)
 }
 
 // Appends binary data.
@@ -474,8 +465,8 @@ pub fn fringewell_state_append_binary(
         ≡ performs (writer.append key.now (value.binary subtype contents.now)) words.old
         out.old }
 {
-    let number = append_bytes::append_binary(out, words, key, subtype, contents);
-    c_answers::of_written(number, words)
+    let done = append_bytes::append_binary(out, words, key, subtype, contents);
+    c_answers::of_written(done, words)
 }
 
 // Appends a regular expression.
@@ -490,8 +481,8 @@ pub fn fringewell_state_append_regex(
         ≡ performs (writer.append key.now (value.regex pattern.now options.now)) words.old
         out.old }
 {
-    let number = append_bytes::append_regex(out, words, key, pattern, options);
-    c_answers::of_written(number, words)
+    let done = append_bytes::append_regex(out, words, key, pattern, options);
+    c_answers::of_written(done, words)
 }
 
 // Appends a DBPointer.
@@ -506,8 +497,8 @@ pub fn fringewell_state_append_dbpointer(
         ≡ performs (writer.append key.now (value.db_pointer namespace.now id.now)) words.old
         out.old }
 {
-    let number = append_bytes::append_dbpointer(out, words, key, namespace, id);
-    c_answers::of_written(number, words)
+    let done = append_bytes::append_dbpointer(out, words, key, namespace, id);
+    c_answers::of_written(done, words)
 }
 
 // Appends an ObjectId.
@@ -520,8 +511,8 @@ pub fn fringewell_state_append_object_id(
     ensures { leaves result words.new out.new
         ≡ performs (writer.append key.now (value.object_id id.now)) words.old out.old }
 {
-    let number = append_bytes::append_object_id(out, words, key, id);
-    c_answers::of_written(number, words)
+    let done = append_bytes::append_object_id(out, words, key, id);
+    c_answers::of_written(done, words)
 }
 
 // Appends a decimal128 by its bits.
@@ -534,6 +525,6 @@ pub fn fringewell_state_append_decimal128(
     ensures { leaves result words.new out.new
         ≡ performs (writer.append key.now (value.decimal128 bits.now)) words.old out.old }
 {
-    let number = append_bytes::append_decimal128(out, words, key, bits);
-    c_answers::of_written(number, words)
+    let done = append_bytes::append_decimal128(out, words, key, bits);
+    c_answers::of_written(done, words)
 }

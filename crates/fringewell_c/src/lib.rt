@@ -12,7 +12,7 @@ ghost use Rattle.bson.specs.Step.{cursor};
 ghost use Rattle.bson.specs.Value as value;
 ghost use Rattle.bson.specs.Writer as writer;
 ghost use Rattle.c_answers.specs.Numbers.{verdict, emptiness, found};
-ghost use Rattle.fringewell.specs.Left.{steps_under, steps, reads_under, reads, left, left_shown, shows_under, shows, joins, leaves, performs};
+ghost use Rattle.fringewell.specs.Left.{steps_under, steps, reads_under, reads, left, shows_under, shows, joins, leaves, performs};
 
 use c_answers::{
     ElementNumbers, JoinedNumbers, ShownNumbers, StepNumbers, ValueNumbers, VerdictNumbers,
@@ -200,7 +200,7 @@ pub extern "C" fn fringewell_read_lossy(
     place: usize,
     out: &mut [u8],
 ) -> ShownNumbers
-    ensures { left_shown result out.new ≡ shows document.now place out.old }
+    ensures { left result out.new ≡ shows document.now place out.old }
 {
     fringewell::fringewell_read_lossy(document, place, out)
 }
@@ -213,7 +213,7 @@ pub extern "C" fn fringewell_read_lossy_under(
     out: &mut [u8],
     limit: usize,
 ) -> ShownNumbers
-    ensures { left_shown result out.new ≡ shows_under (most limit) document.now place out.old }
+    ensures { left result out.new ≡ shows_under (most limit) document.now place out.old }
 {
     fringewell::fringewell_read_lossy_under(document, place, out, limit)
 }

@@ -1,15 +1,15 @@
 -- What cursors, elements and the cases of an answer say on paper, and the cursor behind a step (RULES.md, "Admission and one step").
-use Rattle.std.specs.Prelude.{ℕ, ◌+◌, ◌%◌, ◌^◌, ◌≡◌}
-use Rattle.bson.specs.Answer.{Answer, gives, refuses}
+use Rattle.std.specs.Prelude.{ℕ, ◌+◌, ◌%◌, ◌^◌, ◌≡◌, Option, None, Some, Result}
+use Rattle.bson.specs.Answer.{Answer}
 use Rattle.bson.specs.Bytes as bytes
 use Rattle.bson.specs.Step as paper
 use Rattle.part.specs.Said.{said_part}
+use Rattle.refusal.specs.Said.{placed_by}
+use Rattle.refusal.specs.declared.Refused.{Refused}
 use Rattle.iter.specs.declared.Cursor.{Cursor}
 use Rattle.iter.specs.declared.Element.{Element}
 use Rattle.iter.specs.declared.Sizes.{Sizes}
-use Rattle.iter.specs.declared.Sizes.TheVariants as sizes
 use Rattle.iter.specs.declared.Step.{Step}
-use Rattle.iter.specs.declared.Step.TheVariants.{Yield, End, Refused}
 
 abbrev pub said_cursor : Cursor → paper.Cursor
 said_cursor c = paper.cursor c.offset c.ended
@@ -32,20 +32,26 @@ sized_wrapping place tag key value =
       value = bytes.part ((place + 1 + key + 1) % 2 ^ 64) value;
     }
 
-abbrev pub said_sizes : ℕ → Sizes → Answer paper.Step
-said_sizes place (sizes.Yield tag key value) = gives (paper.yield (sized place tag key value))
-said_sizes place sizes.End = gives paper.end
-said_sizes place (sizes.Refused k p) = refuses k p
+-- the element at a place of these sizes
+abbrev pub element_sized : ℕ → Sizes → paper.Element
+element_sized place z = sized place z.tag z.key z.value
+
+-- an element, or none at the end
+abbrev pub step_of : {E : Type 0} → (E → paper.Element) → Option E → paper.Step
+step_of f None = paper.end
+step_of f (Some e) = paper.yield (f e)
+
+abbrev pub said_sizes : ℕ → Result (Option Sizes) Refused → Answer paper.Step
+said_sizes place = placed_by (step_of (element_sized place))
+
+abbrev pub said_answer : Result (Option Element) Refused → Answer paper.Step
+said_answer = placed_by (step_of said_element)
 
 abbrev pub said : Step → Answer paper.Step
-said (Yield e c) = gives (paper.yield (said_element e))
-said (End c) = gives paper.end
-said (Refused k p c) = refuses k p
+said r = said_answer r.answer
 
 abbrev pub cursor_behind : Step → paper.Cursor
-cursor_behind (Yield e c) = said_cursor c
-cursor_behind (End c) = said_cursor c
-cursor_behind (Refused k p c) = said_cursor c
+cursor_behind r = said_cursor r.next
 
 -- what a step from a cursor answers, and that the cursor behind it is the one after that answer
 abbrev pub Answers : Step → paper.Cursor → Answer paper.Step → Type 0

@@ -7,7 +7,7 @@ use native.Mathlib.Omega.{arith}
 use lib.ListN.{length, take, drop}
 use borrow.Author.Tests.{le-leb, lt-leb}
 use Rattle.bson.specs.Grammar.{bytes32}
-use Rattle.bson.specs.Output.{output, put_text}
+use Rattle.bson.specs.Output.{Output, output, put_text}
 use Rattle.bson.specs.Writer as writer
 use Rattle.bson.specs.Join.{body, wrote, refused, joined, size_of_both, both_put}
 use Rattle.laws.proofs.OutputLaws.{then_put}
@@ -27,19 +27,18 @@ module _ (first second buffer : List ℕ) (room : ℕ) (er : room ≡ writer.roo
   no_room_law h = rw (lt-leb size (writer.room (length buffer)) (rw er at h))
 
   pub has_room : 5 ≤ length first → 5 ≤ length second → size ≤ room
-      → (head b₁ b₂ b₃ b₄ : List ℕ) (n₁ n₂ n₃ n₄ : ℕ)
-      → head ≡ bytes32 size
-      → output b₁ n₁ ≡ put_text (output buffer 0) head
-      → output b₂ n₂ ≡ put_text (output b₁ n₁) (take (length first - 1 - 4) (drop 4 first))
-      → output b₃ n₃ ≡ put_text (output b₂ n₂) (take (length second - 1 - 4) (drop 4 second))
-      → output b₄ n₄ ≡ put_text (output b₃ n₃) (0 ∷ [])
-      → joined (wrote size) b₄ ≡ both_put first second buffer
+      → {o₁ o₂ o₃ o₄ : Output}
+      → o₁ ≡ put_text (output buffer 0) (bytes32 size)
+      → o₂ ≡ put_text o₁ (take (length first - 1 - 4) (drop 4 first))
+      → o₃ ≡ put_text o₂ (take (length second - 1 - 4) (drop 4 second))
+      → o₄ ≡ put_text o₃ (0 ∷ [])
+      → {exit : List ℕ} → exit ≡ o₄.buffer
+      → joined (wrote size) exit ≡ both_put first second buffer
   unfolding both_put size_of_both
-  has_room p q h head b₁ b₂ b₃ b₄ n₁ n₂ n₃ n₄ eh e₁ e₂ e₃ e₄ =
-      let o₁ = e₁ ∙ ap (put_text (output buffer 0)) eh in
-      let o₂ = then_put (body first) o₁ (e₂ ∙ ap (put_text (output b₁ n₁)) (body_part first)) in
-      let o₃ = then_put (body second) o₂ (e₃ ∙ ap (put_text (output b₂ n₂)) (body_part second)) in
-      let o₄ = then_put (0 ∷ []) o₃ e₄ in
+  has_room p q h {o₁} {o₂} {o₃} {o₄} e₁ e₂ e₃ e₄ ex =
+      let f₂ = then_put (body first) e₁ (e₂ ∙ ap (put_text o₁) (body_part first)) in
+      let f₃ = then_put (body second) f₂ (e₃ ∙ ap (put_text o₂) (body_part second)) in
+      let f₄ = then_put (0 ∷ []) f₃ e₄ in
       let low = (room_within (length buffer)).0 in
       rw (le-leb size (writer.room (length buffer)) (rw er at h))
-      (ap (joined (wrote size)) (bodies_put first second p q buffer size (output b₄ n₄) refl (omega arith) o₄))
+      (ap (joined (wrote size)) (ex ∙ bodies_put first second p q buffer size o₄ refl (omega arith) f₄))

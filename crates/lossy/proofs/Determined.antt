@@ -6,27 +6,21 @@ use contract.Lifetimes.{Lfts}
 use borrow.Fn.Kinds.{Dens}
 use Rattle.bson.specs.Answer.{Answer}
 use Rattle.bson.specs.Lossy as paper
-use Rattle.laws.proofs.Determined.{DeterminedBuf, injective_by, unsaid_at}
+use Rattle.laws.proofs.Determined.{DeterminedBuf}
+use Rattle.refusal.proofs.Determined.{said_injective, placed_by_injective}
 use Rattle.iter.proofs.Determined.{unsaid_element}
-use Rattle.part.proofs.Determined.{unsaid_part, length_injective}
-use Rattle.lossy.specs.Said.{said}
+use Rattle.part.proofs.Determined.{unsaid_part}
+use Rattle.lossy.specs.Said.{said_shown}
 use Rattle.lossy.specs.declared.Shown.{Shown}
-use Rattle.lossy.specs.declared.Shown.TheVariants.{Wrote, Refused}
 use Rattle.lossy.proofs.put_lossy.Reads as put_lossy_reads
 use Rattle.lossy.proofs.put_lossy.Kinds as put_lossy_kinds
 use Rattle.lossy.proofs.value_utf8_lossy.Reads as value_utf8_lossy_reads
 use Rattle.lossy.proofs.value_utf8_lossy.Kinds as value_utf8_lossy_kinds
-use Rattle.lossy.proofs.read_utf8_lossy_under.Reads as read_utf8_lossy_under_reads
-use Rattle.lossy.proofs.read_utf8_lossy_under.Kinds as read_utf8_lossy_under_kinds
 use Rattle.lossy.proofs.read_utf8_lossy.Reads as read_utf8_lossy_reads
 use Rattle.lossy.proofs.read_utf8_lossy.Kinds as read_utf8_lossy_kinds
 
-abbrev unsaid : Answer paper.Shown → Shown
-unsaid = unsaid_at (λ w. Wrote (unsaid_element w.element) w.size (unsaid_part w.second)) Refused
-
-again : (r : Shown) → unsaid (said r) ≡ r
-again (Wrote e n p) = refl
-again (Refused number place) = refl
+abbrev unsaid_shown : paper.Shown → Shown
+unsaid_shown s = record { element = unsaid_element s.element; size = s.size; second = unsaid_part s.second }
 
 -- what a call leaves is an answer and a buffer
 leaves_same : {A R : Type 0} {said : R → Answer A} (injective : (a b : R) → said a ≡ said b → a ≡ b) (r₁ r₂ : R) (b₁ b₂ : List ℕ)
@@ -36,17 +30,13 @@ leaves_same {A} injective r₁ r₂ b₁ b₂ x p q = (
   ap (λ (l : paper.Leaves A). l.left) (p ∙ sym q),
 )
 
-pub said_injective : (a b : Shown) → said a ≡ said b → a ≡ b
-said_injective = injective_by said unsaid again
-
 pub put_lossy_determined : (κs : Lfts 2) (a : Dens κs put_lossy_kinds.ps) → DeterminedBuf (λ s. s.0.now) (put_lossy_reads.Post κs a)
-put_lossy_determined κs a r₁ r₂ s₁ s₂ p q = leaves_same length_injective r₁ r₂ _ _ _ p q
+put_lossy_determined κs a r₁ r₂ s₁ s₂ p q = leaves_same said_injective r₁ r₂ _ _ _ p q
 
 pub value_utf8_lossy_determined : (κs : Lfts 2) (a : Dens κs value_utf8_lossy_kinds.ps) → DeterminedBuf (λ s. s.0.now) (value_utf8_lossy_reads.Post κs a)
-value_utf8_lossy_determined κs a r₁ r₂ s₁ s₂ p q = leaves_same said_injective r₁ r₂ _ _ _ p q
-
-pub read_utf8_lossy_under_determined : (κs : Lfts 2) (a : Dens κs read_utf8_lossy_under_kinds.ps) → DeterminedBuf (λ s. s.0.now) (read_utf8_lossy_under_reads.Post κs a)
-read_utf8_lossy_under_determined κs a r₁ r₂ s₁ s₂ p q = leaves_same said_injective r₁ r₂ _ _ _ p q
+value_utf8_lossy_determined κs a r₁ r₂ s₁ s₂ p q =
+    leaves_same (placed_by_injective said_shown unsaid_shown (λ s. refl)) r₁ r₂ _ _ _ p q
 
 pub read_utf8_lossy_determined : (κs : Lfts 2) (a : Dens κs read_utf8_lossy_kinds.ps) → DeterminedBuf (λ s. s.0.now) (read_utf8_lossy_reads.Post κs a)
-read_utf8_lossy_determined κs a r₁ r₂ s₁ s₂ p q = leaves_same said_injective r₁ r₂ _ _ _ p q
+read_utf8_lossy_determined κs a r₁ r₂ s₁ s₂ p q =
+    leaves_same (placed_by_injective said_shown unsaid_shown (λ s. refl)) r₁ r₂ _ _ _ p q

@@ -1,3 +1,2 @@
 pub mod ShownLaws
-pub mod Order
 pub mod Determined

@@ -6,10 +6,10 @@ use mathlib.Core.Bool.{true, false}
 use native.Mathlib.Nat.{not-suc-le-zero, div-add-mod'}
 use native.Mathlib.Omega.{arith}
 use lib.Dec.{leb}
-use lib.ListN.{length, take, drop, length-append, length-drop, drop_of_length-le}
+use lib.ListN.{length, take, drop, length-append, length-drop}
 use lib.Seq.{take-add, drop-drop, length-take-le}
 use borrow.Author.Tests.{le-leb, lt-leb, leb-true, leb-false}
-use Rattle.bson.specs.Answer.{gives, refuses, unless}
+use Rattle.bson.specs.Answer.{Answer, gives, refuses, unless}
 use Rattle.bson.specs.Utf8.{rows, begin}
 use Rattle.bson.specs.Lossy.{piece, piece_of, pieces_for, pieces, replacement, lossy}
 use Rattle.bson.specs.Output.{Output, output, put_text}
@@ -36,18 +36,6 @@ mark_some (suc n) h = refl
 
 pub mark_none : (n : ℕ) → n ≡ 0 → mark n ≡ []
 mark_none n e = rw e
-
-pub mark_three : (n : ℕ) → (n ≡ 0 → ⊥) → mark n ≡ replacement
-mark_three n h = mark_some n (omega arith)
-
--- what is left of the room behind a chunk of so many bytes
-pub room_left : (size room left : ℕ) → size + left ≡ room → gives left ≡ unless (leb size room) 14 (gives (room - size))
-room_left size room left e =
-    let z : room - size ≡ left = omega arith in
-    rw (le-leb size room (omega arith), z)
-
-pub no_room_law : (size room : ℕ) → room < size → refuses 14 0 ≡ unless (leb size room) 14 (gives (room - size))
-no_room_law size room h = rw (lt-leb size room h)
 
 splits_nil : Splits [] (chunk_of [])
 unfolding chunk_of lossy pieces pieces_for
@@ -88,41 +76,33 @@ splits_for (suc n) (b ∷ v) h =
     rw (piece_bad p.size w (omega arith) e)
     (record { inside = omega arith; onward = λ _. omega arith; shows = rw (mark_some p.size some, z) (rw t at (lossy_cons b v)) }))
 
-pub splits : (v : List ℕ) → Splits v (chunk_of v)
+splits : (v : List ℕ) → Splits v (chunk_of v)
 splits v = splits_for (length v) v (omega arith)
-
--- as the code meets it: of the rest of a text
-pub record Here (text : List ℕ) (i : ℕ) (c : Chunk) : Type 0 where
-  pub splits : Splits (drop i text) c
-
-chunk_here : (text : List ℕ) (i : ℕ) (c : Chunk) → c ≡ chunk_of (take (length text - i) (drop i text)) → Here text i c
-chunk_here text i c e = record { splits = rw (e, rest_part text i) (splits (drop i text)) }
-
--- it lies in the text, and one goes on behind it
-pub chunk_inside : {text : List ℕ} {i : ℕ} {c : Chunk} → Here text i c → i ≤ length text → i + (c.valid + c.invalid) ≤ length text
-chunk_inside {text} {i} s h = omega (arith, s.splits.inside, length-drop i text)
-
-pub chunk_onward : {text : List ℕ} {i : ℕ} {c : Chunk} → Here text i c → i < length text → 0 < c.valid + c.invalid
-chunk_onward {text} {i} s h = s.splits.onward (omega (arith, length-drop i text))
 
 shown_length : {v : List ℕ} {c : Chunk} → Splits v c → length (lossy v) ≡ size_shown c + length (lossy (drop (c.valid + c.invalid) v))
 shown_length {v} {c} s =
     let l = length-take-le c.valid v (omega (arith, s.inside)) in
     ap length s.shows ∙ simp length-append (omega arith)
 
--- ---- whether it fits
+-- it lies in the text, and one goes on behind it; the first part shows `grind` the call to match
+pub chunk_in : (v : List ℕ) → 0 < length v → (chunk_of v ≡ chunk_of v) × ((chunk_of v).valid + (chunk_of v).invalid ≤ length v)
+    × (0 < (chunk_of v).valid + (chunk_of v).invalid)
+chunk_in v h = (refl, (splits v).inside, (splits v).onward h)
 
--- the rest of a text fits what is left of the room exactly where the text fits the room
-pub record Fitting (text : List ℕ) (room left i : ℕ) : Type 0 where
-  pub inside : i ≤ length text
-  pub same : leb (length (lossy (drop i text))) left ≡ leb (length (lossy text)) room
+-- what is left behind it, as the code meets it
+abbrev pub left_behind : List ℕ → Chunk → List ℕ
+left_behind v c = take (length v - (c.valid + c.invalid)) (drop (c.valid + c.invalid) v)
+
+-- ---- whether it fits
 
 -- three times its bytes are enough
 pub large_room : (text : List ℕ) (room : ℕ) → length text ≤ room / 3 → true ≡ leb (length (lossy text)) room
 large_room text room h = sym (le-leb (length (lossy text)) room (omega (arith, lossy_size text, div-add-mod' room 3)))
 
-pub fitting_start : (text : List ℕ) (room : ℕ) → Fitting text room room 0
-fitting_start text room = record { inside = omega arith; same = refl }
+-- no text is left
+pub nothing_fits : (v : List ℕ) (left : ℕ) → length v ≡ 0 → leb (length (lossy v)) left ≡ true
+nothing_fits [] left e = rw lossy_nil (le-leb 0 left (omega arith))
+nothing_fits (b ∷ v) left e = absurd (omega arith)
 
 rest_fits : (whole front rest left : ℕ) → whole ≡ front + rest → front ≤ left → leb rest (left - front) ≡ leb whole left
 rest_fits whole front rest left e h =
@@ -130,102 +110,68 @@ rest_fits whole front rest left e h =
     (λ t. rw t (le-leb rest (left - front) (omega (arith, leb-true whole left t))))
     (λ t. rw t (lt-leb rest (left - front) (omega (arith, leb-false whole left t))))
 
-module _ {text : List ℕ} {room left i : ℕ} (f : Fitting text room left i) where
-  pub fitting_chunk : {c : Chunk} → c ≡ chunk_of (take (length text - i) (drop i text)) → Here text i c
-  fitting_chunk {c} e = chunk_here text i c e
+-- what is left of the room behind a chunk
+abbrev pub behind_chunk : Chunk → ℕ → Answer ℕ
+behind_chunk c left = unless (leb (size_shown c) left) 14 (gives (left - size_shown c))
 
-  pub fitting_end : length text ≤ i → true ≡ leb (length (lossy text)) room
-  fitting_end h =
-      let e : length (lossy (drop i text)) ≡ 0 = rw (drop_of_length-le text h, lossy_nil) in
-      sym (le-leb (length (lossy (drop i text))) left (omega arith)) ∙ f.same
+-- a chunk with no room for it ends the measure, and behind one that has room it goes on
+pub chunk_too_long : (v : List ℕ) {c : Chunk} (left : ℕ) {number : ℕ} → c ≡ chunk_of v → refuses number 0 ≡ behind_chunk c left
+    → leb (length (lossy v)) left ≡ false
+chunk_too_long v {c} left e r =
+    let n : length (lossy v) ≡ size_shown c + length (lossy (drop (c.valid + c.invalid) v)) = shown_length (rw e (splits v)) in
+    split (leb (size_shown c) left)
+    (λ t. never (rw t at r))
+    (λ t. lt-leb (length (lossy v)) left (omega (arith, leb-false (size_shown c) left t)))
 
-  module _ {c : Chunk} (s : Here text i c) where
-    pub fitting_none : (number : ℕ) → unless (leb (size_shown c) left) 14 (gives (left - size_shown c)) ≡ refuses number 0
-        → false ≡ leb (length (lossy text)) room
-    fitting_none number e =
-        let n = shown_length s.splits in
-        split (leb (size_shown c) left)
-        (λ t. never (sym (rw t at e)))
-        (λ t. sym (lt-leb (length (lossy (drop i text))) left (omega (arith, leb-false (size_shown c) left t))) ∙ f.same)
-
-    pub fitting_more : (n : ℕ) → unless (leb (size_shown c) left) 14 (gives (left - size_shown c)) ≡ gives n
-        → Fitting text room n (i + (c.valid + c.invalid))
-    fitting_more n e =
-        let (t, g) = unless_gives (leb (size_shown c) left) 14 (gives (left - size_shown c)) e in
-        let h = leb-true (size_shown c) left t in
-        let q : left - size_shown c ≡ n = gives_injective g in
-        let size = shown_length s.splits in
-        record {
-          inside = chunk_inside s f.inside;
-          same = rw (← drop-drop (c.valid + c.invalid) i text, ← q, rest_fits _ (size_shown c) _ left size h) f.same;
-        }
+pub chunk_fits : (v : List ℕ) {c : Chunk} (left : ℕ) {n : ℕ} → c ≡ chunk_of v → gives n ≡ behind_chunk c left
+    → leb (length (lossy (left_behind v c))) n ≡ leb (length (lossy v)) left
+chunk_fits v {c} left {n} e r =
+    let (t, g) = unless_gives (leb (size_shown c) left) 14 (gives (left - size_shown c)) (sym r) in
+    let q : left - size_shown c ≡ n = gives_injective g in
+    let size : length (lossy v) ≡ size_shown c + length (lossy (drop (c.valid + c.invalid) v)) = shown_length (rw e (splits v)) in
+    rw (rest_part v (c.valid + c.invalid), ← q) (rest_fits _ (size_shown c) _ left size (leb-true (size_shown c) left t))
 
 -- ---- what is put
 
--- the rest put behind what is put is the whole text put
-pub record Putting (text entry buffer : List ℕ) (at i : ℕ) : Type 0 where
-  pub inside : i ≤ length text
-  pub fits : at + length (lossy (drop i text)) ≤ length buffer
-  pub same : put_text (output buffer at) (lossy (drop i text)) ≡ put_text (output entry 0) (lossy text)
-  pub kept : length buffer ≡ length entry
+-- no text is left
+pub nothing_left : (v buffer : List ℕ) (at : ℕ) → length v ≡ 0 → put_text (output buffer at) (lossy v) ≡ output buffer at
+nothing_left [] buffer at e = rw lossy_nil (nothing_put (output buffer at))
+nothing_left (b ∷ v) buffer at e = absurd (omega arith)
 
-pub putting_start : (text entry : List ℕ) → length (lossy text) ≤ length entry → Putting text entry entry 0 0
-putting_start text entry h = record { inside = omega arith; fits = omega arith; same = refl; kept = refl }
+put_append : (o : Output) (x y : List ℕ) → o.used + (length x + length y) ≤ length o.buffer → put_text (put_text o x) y ≡ put_text o (x ++ y)
+put_append o x y h =
+    let n : length (x ++ (y ++ [])) ≡ length x + length y = simp (length-append, append-nil) in
+    texts_fit o (x ∷ y ∷ []) (omega arith)
+    ∙ sym (text_fits o.buffer o.used (x ++ (y ++ [])) (omega arith))
+    ∙ ap (λ (w : List ℕ). put_text o (x ++ w)) (append-nil y)
 
--- a text that fits, put
-put_is : (b : List ℕ) (at : ℕ) (text : List ℕ) {c : List ℕ} {n : ℕ} → output c n ≡ put_text (output b at) text → at + length text ≤ length b
-    → (n ≡ at + length text) × (length c ≡ length b)
-put_is b at text e h =
-    let q = e ∙ text_fits b at text h in
-    (ap (λ (o : Output). o.used) q, ap (λ (o : Output). length o.buffer) q ∙ length_put b at text h)
+-- what is left fits, and put behind what is put it is the whole text put
+pub record Putting (o : Output) (v : List ℕ) (all : Output) : Type 0 where
+  pub fits : o.used + length (lossy v) ≤ length o.buffer
+  pub same : put_text o (lossy v) ≡ all
 
-module _ {text entry buffer : List ℕ} {at i : ℕ} (p : Putting text entry buffer at i) where
-  pub putting_chunk : {c : Chunk} → c ≡ chunk_of (take (length text - i) (drop i text)) → Here text i c
-  putting_chunk {c} e = chunk_here text i c e
-
-  pub putting_end : length text ≤ i → output buffer at ≡ put_text (output entry 0) (lossy text)
-  putting_end h =
-      let e : lossy (drop i text) ≡ [] = rw (drop_of_length-le text h, lossy_nil) in
-      sym (nothing_put (output buffer at)) ∙ ap (put_text (output buffer at)) (sym e) ∙ p.same
-
-  module _ {c : Chunk} (s : Here text i c) where
-    abbrev characters : List ℕ
-    characters = take c.valid (drop i text)
-
-    abbrev rest : List ℕ
-    rest = lossy (drop (c.valid + c.invalid) (drop i text))
-
-    pub putting_more : (b₁ b₂ : List ℕ) (n₁ n₂ : ℕ)
-        → output b₁ n₁ ≡ put_text (output buffer at) (take (i + c.valid - i) (drop i text))
-        → output b₂ n₂ ≡ put_text (output b₁ n₁) (mark c.invalid)
-        → Putting text entry b₂ n₂ (i + c.valid + c.invalid)
-    putting_more b₁ b₂ n₁ n₂ e₁ e₂ =
-        let m = mark c.invalid in
-        let z : i + c.valid - i ≡ c.valid = omega arith in
-        let q : i + (c.valid + c.invalid) ≡ i + c.valid + c.invalid = omega arith in
-        let d : drop (c.valid + c.invalid) (drop i text) ≡ drop (i + c.valid + c.invalid) text =
-        drop-drop (c.valid + c.invalid) i text ∙ ap (λ (k : ℕ). drop k text) q in
-        let l : length characters ≡ c.valid = length-take-le c.valid (drop i text) (omega (arith, s.splits.inside)) in
-        let size = shown_length s.splits in
-        let o₁ : output b₁ n₁ ≡ put_text (output buffer at) characters = rw z at e₁ in
-        let f₁ = put_is buffer at characters o₁ (omega (arith, p.fits)) in
-        let f₂ = put_is b₁ n₁ m e₂ (omega (arith, p.fits)) in
-        record {
-          inside = omega (arith, s.splits.inside, p.inside, length-drop i text);
-          fits = rw (← d) (omega (arith, p.fits));
-          same =
-              ap (λ (v : List ℕ). put_text (output b₂ n₂) (lossy v)) (sym d)
-              ∙ ap (λ (o : Output). put_text o rest) (e₂ ∙ ap (λ (o : Output). put_text o m) o₁)
-              ∙ three_put characters m rest (omega (arith, p.fits))
-              ∙ ap (put_text (output buffer at)) (sym s.splits.shows)
-              ∙ p.same;
-          kept = f₂.1 ∙ f₁.1 ∙ p.kept;
-        }
-      where
-        three_put : (x y w : List ℕ) → at + (length x + (length y + length w)) ≤ length buffer
-            → put_text (put_text (put_text (output buffer at) x) y) w ≡ put_text (output buffer at) (x ++ (y ++ w))
-        three_put x y w h =
-            let n : length (x ++ (y ++ (w ++ []))) ≡ length x + (length y + length w) = simp (length-append, append-nil) in
-            texts_fit (output buffer at) (x ∷ y ∷ w ∷ []) (omega arith)
-            ∙ sym (text_fits buffer at (x ++ (y ++ (w ++ []))) (omega arith))
-            ∙ ap (λ (v : List ℕ). put_text (output buffer at) (x ++ (y ++ v))) (append-nil w)
+-- a chunk put leaves what is behind it to be put
+pub chunk_put : {o p q all : Output} {v : List ℕ} {c : Chunk} → Putting o v all → c ≡ chunk_of v
+    → p ≡ put_text o (take c.valid v) → q ≡ put_text p (mark c.invalid) → Putting q (left_behind v c) all
+chunk_put {o} {p} {q} {all} {v} {c} i e a b =
+    let s : Splits v c = rw e (splits v) in
+    let x = take c.valid v in
+    let m = mark c.invalid in
+    let w = lossy (drop (c.valid + c.invalid) v) in
+    let l : length x ≡ c.valid = length-take-le c.valid v (omega (arith, s.inside)) in
+    let size = shown_length s in
+    let y : length (x ++ m) ≡ length x + length m = length-append x m in
+    let front : q ≡ put_text o (x ++ m) = b ∙ ap (λ (o : Output). put_text o m) a ∙ put_append o x m (omega (arith, i.fits)) in
+    let is = front ∙ text_fits o.buffer o.used (x ++ m) (omega (arith, i.fits)) in
+    let used : q.used ≡ o.used + length (x ++ m) = ap (λ (o : Output). o.used) is in
+    let long : length q.buffer ≡ length o.buffer =
+    ap (λ (o : Output). length o.buffer) is ∙ length_put o.buffer o.used (x ++ m) (omega (arith, i.fits)) in
+    rw (rest_part v (c.valid + c.invalid))
+    (record {
+      fits = omega (arith, i.fits);
+      same =
+          ap (λ (o : Output). put_text o w) front
+          ∙ put_append o (x ++ m) w (omega (arith, i.fits))
+          ∙ ap (put_text o) (append_assoc x m w ∙ sym s.shows)
+          ∙ i.same;
+    })

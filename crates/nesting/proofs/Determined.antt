@@ -2,7 +2,8 @@
 use contract.Lifetimes.{Lfts}
 use borrow.Fn.Kinds.{Dens}
 use Rattle.bson.specs.Writer.{desk}
-use Rattle.laws.proofs.Determined.{DeterminedBuf, written_same}
+use Rattle.laws.proofs.Determined.{DeterminedBuf}
+use Rattle.appending.proofs.Exits.{written_same}
 use Rattle.nesting.proofs.open_document.Reads as open_document_reads
 use Rattle.nesting.proofs.open_document.Kinds as open_document_kinds
 use Rattle.nesting.proofs.open_array.Reads as open_array_reads

@@ -9,15 +9,18 @@ use lib.Seq.{get_or-set_other}
 use borrow.Author.Tests.{le-leb, lt-leb, eq-eqb, ne_eqb}
 use Rattle.bson.specs.Answer.{Answer, gives, refuses, then}
 use Rattle.bson.specs.Grammar.{bytes32, element_bytes, document}
-use Rattle.bson.specs.Output.{Output, output, put, put_text}
+use Rattle.bson.specs.Output.{output, put, put_text}
 use Rattle.bson.specs.Writer.{State, used, depth, start, mark_of, Kind, room, possible, innermost, key_in, Desk, desk, appended, pushed}
 use Rattle.bson.specs.Writer.{popped, opened_top, closed, open_top, close, answer, Written, written, leaves, performed}
 use Rattle.laws.proofs.GrammarLaws.{length_bytes32}
-use Rattle.laws.proofs.OutputLaws.{text_fits}
+use Rattle.output.proofs.Left.{text_there}
 use Rattle.laws.proofs.WriterWords.{grown_depth}
 use Rattle.laws.proofs.WriterLaws.{room_within, innermost_says, DeskSizes, desk_sizes, Appended, appended_says}
 use Rattle.laws.proofs.WriterRefusals.{appended_refused, accepted_from}
+use Rattle.refusal.specs.Said.{number}
+use Rattle.refusal.specs.declared.Refusal.{Refusal}
 use Rattle.appending.specs.Element.{appending}
+use Rattle.appending.proofs.Filled.{numbered}
 use Rattle.nesting.specs.Opened.{opened_as, pushed_at}
 
 -- ---- behind the element of an opening
@@ -39,18 +42,19 @@ module _ (w : State) (buffer : List ℕ) (tag mark : ℕ) (key : List ℕ) (n : 
       (sym (ap (λ (x : Written). x.number) is) ∙ z)
       ∙ ap (λ (x : Written). gives x.left) (sym is)
 
-  pub opened_done : n ≡ 0 → (x : State) → x ≡ pushed_at v (used v - 4) mark → written n x exit ≡ opened_as w buffer tag mark key
+  pub opened_done : n ≡ 0 → (x : State) → x ≡ pushed_at v (used v - 4) mark → written 0 x exit ≡ opened_as w buffer tag mark key
   unfolding opened_as was pushed pushed_at
-  opened_done z x ex = rw (accepted z, z, ex)
+  opened_done z x ex = rw (accepted z, ex)
 
-  pub opened_refused : (n ≡ 0 → ⊥) → written n v exit ≡ opened_as w buffer tag mark key
+  pub opened_refused : (why : Refusal) → n ≡ number why → written (number why) v exit ≡ opened_as w buffer tag mark key
   unfolding opened_as was
-  opened_refused h = by was refl
+  opened_refused why z = by was refl
     where
       by : (a : Answer Desk) → was ≡ a
-          → written n v exit ≡ leaves (desk w buffer) (then a λ d. gives (desk (pushed d.state mark) d.buffer))
-      by (gives d) q = absurd (h (ap (λ (x : Written). x.number) is ∙ ap (λ (a : Answer Desk). (leaves (desk w buffer) a).number) q))
-      by (refuses m p) q = is ∙ ap (leaves (desk w buffer)) q
+          → written (number why) v exit ≡ leaves (desk w buffer) (then a λ d. gives (desk (pushed d.state mark) d.buffer))
+      by (gives d) q =
+          absurd (numbered why (sym z ∙ ap (λ (x : Written). x.number) is ∙ ap (λ (a : Answer Desk). (leaves (desk w buffer) a).number) q))
+      by (refuses m p) q = ap (λ (k : ℕ). written k v exit) (sym z) ∙ is ∙ ap (leaves (desk w buffer)) q
 
   pub opened_ready : n ≡ 0 → depth v < 202
   unfolding was
@@ -90,26 +94,26 @@ module _ (w : State) (buffer : List ℕ) (m : ℕ) (em : m ≡ room (length buff
     pub top_ready : d ≡ 0 → depth (set w 0 4) < 202
     top_ready z = let e = get_or-set_other w 0 1 4 0 (λ (q : 1 ≡ 0). omega arith) in omega arith
 
-    pub top_done : d ≡ 0 → 5 ≤ m → (exit : List ℕ) (end : ℕ) → output exit end ≡ put_text (output buffer 0) (bytes32 5)
+    pub top_done : d ≡ 0 → 5 ≤ m → (left : List ℕ) (end : ℕ) → output left end ≡ put_text (output buffer 0) (bytes32 5)
+        → (exit : List ℕ) → exit ≡ left
         → (v : State) → v ≡ pushed_at (set w 0 4) 0 (mark_of document) → written 0 v exit ≡ performed open_top w buffer
     unfolding performed answer opened_top pushed pushed_at
-    top_done z h exit end eo v ev =
+    top_done z h left end eo exit ex v ev =
         let l = (room_within (length buffer)).0 in
-        let b : exit ≡ put buffer 0 (bytes32 5) = ap (λ (o : Output). o.buffer)
-        (eo ∙ text_fits buffer 0 (bytes32 5) (omega (arith, length_bytes32 5))) in
+        let b = text_there buffer 0 (bytes32 5) (omega (arith, length_bytes32 5)) eo ex in
         rw (← can, t, ← ed, eq-eqb d 0 z, ← em, le-leb 5 m h, ev, b, four_before w)
 
 -- ---- closing
 
 -- and the innermost closed
 module _ (w : State) (buffer : List ℕ) (m : ℕ) (em : m ≡ room (length buffer)) where
-  pub close_refused : (n : ℕ) → innermost w m ≡ refuses n 0 → written n w buffer ≡ performed close w buffer
+  pub close_refused : {n p : ℕ} → refuses n p ≡ innermost w m → written n w buffer ≡ performed close w buffer
   unfolding performed answer closed
-  close_refused n e = rw (← em, e)
+  close_refused e = rw (← em, ← e)
 
-  module _ (kind : Kind) (ei : innermost w m ≡ gives kind) where
+  module _ (kind : Kind) (ei : gives kind ≡ innermost w m) where
     inner : innermost w (room (length buffer)) ≡ gives kind
-    inner = ap (innermost w) (sym em) ∙ ei
+    inner = sym (ei ∙ ap (innermost w) em)
 
     known : DeskSizes (desk w buffer) kind
     known = desk_sizes (desk w buffer) kind (innermost_says (desk w buffer) kind inner)

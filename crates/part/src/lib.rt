@@ -1,4 +1,4 @@
-// A part of a slice, as an offset and a size, a byte of it, and a length of what lies in it (RULES.md, "What must change shape").
+// A part of a slice, as an offset and a size, and a byte of it (RULES.md, "What must change shape").
 #![tactic(auto)]
 
 ghost use Rattle.std.specs.Prelude.{◌≡◌, get_or};
@@ -9,13 +9,6 @@ ghost use Rattle.part.specs.Said.{said_part};
 pub struct Part {
     pub offset: usize,
     pub size: usize,
-}
-
-// How many bytes a text or a value has, or the number of the refusal.
-#[derive(Clone, Copy)]
-pub enum Length {
-    Is(usize),
-    Refused(u8),
 }
 
 // The bytes of a part; of one that runs past the slice, those that are there.

@@ -2,36 +2,22 @@
 use mathlib.Core.Path.{sym, ◌∙◌}
 use contract.Lifetimes.{Lfts}
 use borrow.Fn.Kinds.{Dens}
-use Rattle.laws.proofs.Determined.{Determined, DeterminedPart, injective_by}
-use Rattle.document.specs.Said.{said}
+use Rattle.laws.proofs.Determined.{Determined, DeterminedPart}
+use Rattle.refusal.proofs.Determined.{placed_by_injective}
+use Rattle.document.specs.Said.{said_found}
 use Rattle.document.proofs.Determined.{unsaid_found, found_again}
-use Rattle.path.proofs.get_element_under.Reads as get_element_under_reads
-use Rattle.path.proofs.get_element_under.Kinds as get_element_under_kinds
 use Rattle.path.proofs.get_element.Reads as get_element_reads
 use Rattle.path.proofs.get_element.Kinds as get_element_kinds
-use Rattle.path.proofs.get_under.Reads as get_under_reads
-use Rattle.path.proofs.get_under.Kinds as get_under_kinds
 use Rattle.path.proofs.get.Reads as get_reads
 use Rattle.path.proofs.get.Kinds as get_kinds
-use Rattle.path.proofs.get_with_under.Reads as get_with_under_reads
-use Rattle.path.proofs.get_with_under.Kinds as get_with_under_kinds
 use Rattle.path.proofs.get_with.Reads as get_with_reads
 use Rattle.path.proofs.get_with.Kinds as get_with_kinds
 
-pub get_element_under_determined : (κs : Lfts 2) (a : Dens κs get_element_under_kinds.ps) → Determined (get_element_under_reads.Post κs a)
-get_element_under_determined κs a r₁ r₂ s₁ s₂ p q = injective_by said unsaid_found found_again r₁ r₂ (p ∙ sym q)
-
 pub get_element_determined : (κs : Lfts 2) (a : Dens κs get_element_kinds.ps) → Determined (get_element_reads.Post κs a)
-get_element_determined κs a r₁ r₂ s₁ s₂ p q = injective_by said unsaid_found found_again r₁ r₂ (p ∙ sym q)
-
-pub get_under_determined : (κs : Lfts 2) (a : Dens κs get_under_kinds.ps) → DeterminedPart (λ x. x.now) (get_under_reads.Post κs a)
-get_under_determined κs a r₁ r₂ s₁ s₂ p q = p ∙ sym q
+get_element_determined κs a r₁ r₂ s₁ s₂ p q = placed_by_injective said_found unsaid_found found_again r₁ r₂ (p ∙ sym q)
 
 pub get_determined : (κs : Lfts 2) (a : Dens κs get_kinds.ps) → DeterminedPart (λ x. x.now) (get_reads.Post κs a)
 get_determined κs a r₁ r₂ s₁ s₂ p q = p ∙ sym q
 
-pub get_with_under_determined : (κs : Lfts 2) (a : Dens κs get_with_under_kinds.ps) → Determined (get_with_under_reads.Post κs a)
-get_with_under_determined κs a r₁ r₂ s₁ s₂ p q = injective_by said unsaid_found found_again r₁ r₂ (p ∙ sym q)
-
 pub get_with_determined : (κs : Lfts 2) (a : Dens κs get_with_kinds.ps) → Determined (get_with_reads.Post κs a)
-get_with_determined κs a r₁ r₂ s₁ s₂ p q = injective_by said unsaid_found found_again r₁ r₂ (p ∙ sym q)
+get_with_determined κs a r₁ r₂ s₁ s₂ p q = placed_by_injective said_found unsaid_found found_again r₁ r₂ (p ∙ sym q)

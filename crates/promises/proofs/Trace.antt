@@ -4,21 +4,23 @@ use Prim.Native.Nat.{ℕ}
 use mathlib.Core.Path.{◌≡◌, refl, ap, subst, ◌∙◌}
 use mathlib.Core.List.{List}
 use lib.ListN.{length, drop}
+use Rattle.std.specs.Prelude.{Result}
 use Rattle.bson.specs.Writer.{used, Desk, desk, Call, written, performed}
 use Rattle.theorems.specs.ReadBack as read_back
 use Rattle.theorems.specs.ReadBack.{Building, unopened, built, Session, run, session_start, Stands}
 use Rattle.theorems.proofs.Writer.ReadBack.{writer_reads_back}
+use Rattle.refusal.specs.Said.{number_in}
+use Rattle.refusal.specs.declared.Refusal.{Refusal}
 use Rattle.doc_writer.specs.declared.DocWriter.{DocWriter}
-use Rattle.doc_writer.specs.declared.Written.{Written}
 use Rattle.promises.specs.Turn as turns
-use Rattle.promises.specs.Turn.{Room, Turn, session, after_turn, Trace, done, turn, WriterTraceReadsBack, ClosedReadsBack}
+use Rattle.promises.specs.Turn.{Room, Pen, Turn, session, after_turn, Trace, done, turn, WriterTraceReadsBack, ClosedReadsBack}
 use Rattle.promises.proofs.OneTurn.{turn_ends_by, unchanged_by, behind_by}
 
 -- ---- one promise
 
 -- each promise says that what is left is what the definition performs
-pub turn_performs : {out : Room} {w : DocWriter} {r : Written} {c : Call} {left : List ℕ} → Turn out w r c left
-    → written r.number r.writer.words left ≡ performed c w.words out.now
+pub turn_performs : {w : Pen} {out : Room} {r : Result Unit Refusal} {c : Call} {v : DocWriter} {left : List ℕ} → Turn w out r c v left
+    → written (number_in r) v.words left ≡ performed c w.now.words out.now
 turn_performs (turns.opens_top κs s promise) = promise
 turn_performs (turns.opens_document κs key s promise) = promise
 turn_performs (turns.opens_array κs key s promise) = promise
@@ -44,26 +46,26 @@ turn_performs (turns.appends_decimal128 κs key bits s promise) = promise
 
 -- ---- one turn
 
-module _ {out : Room} {w : DocWriter} {r : Written} {c : Call} {left : List ℕ} (t : Turn out w r c left) where
-  turn_ends : (tree : Building) → read_back.turn c (session w out.now tree) ≡ session r.writer left (after_turn r.number c tree)
-  turn_ends = turn_ends_by c (desk w.words out.now) (written r.number r.writer.words left) (turn_performs t)
+module _ {w : Pen} {out : Room} {r : Result Unit Refusal} {c : Call} {v : DocWriter} {left : List ℕ} (t : Turn w out r c v left) where
+  turn_ends : (tree : Building) → read_back.turn c (session w.now out.now tree) ≡ session v left (after_turn (number_in r) c tree)
+  turn_ends = turn_ends_by c (desk w.now.words out.now) (written (number_in r) v.words left) (turn_performs t)
 
   -- "a refused call changes no byte of a lent buffer and no writer state"
-  pub turn_unchanged : (r.number ≡ 0 → ⊥) → (r.writer ≡ w) × (left ≡ out.now)
+  pub turn_unchanged : (number_in r ≡ 0 → ⊥) → (v ≡ w.now) × (left ≡ out.now)
   turn_unchanged h =
-      let e = unchanged_by c (desk w.words out.now) (written r.number r.writer.words left) (turn_performs t) h in
+      let e = unchanged_by c (desk w.now.words out.now) (written (number_in r) v.words left) (turn_performs t) h in
       (ap (λ (d : Desk). record { words = d.state }) e, ap (λ (d : Desk). d.buffer) e)
 
   -- "a call that writes keeps all bytes behind its output"
-  pub turn_behind : length w.words ≡ 406 → drop (used r.writer.words) left ≡ drop (used r.writer.words) out.now
-  turn_behind = behind_by c (desk w.words out.now) (written r.number r.writer.words left) (turn_performs t)
+  pub turn_behind : length w.now.words ≡ 406 → drop (used v.words) left ≡ drop (used v.words) out.now
+  turn_behind = behind_by c (desk w.now.words out.now) (written (number_in r) v.words left) (turn_performs t)
 
 -- ---- a trace
 
 -- a trace is a run of the definition
 pub trace_runs : {end : Session} {calls : List Call} {s : Session} → Trace end calls s → run calls s ≡ end
 trace_runs done = refl
-trace_runs (turn out w r c left tree cs t more) = ap (run cs) (turn_ends t tree) ∙ trace_runs more
+trace_runs (turn w out r c v left tree cs t more) = ap (run cs) (turn_ends t tree) ∙ trace_runs more
 
 pub writer_trace_reads_back : WriterTraceReadsBack
 writer_trace_reads_back w buffer calls end (turns.news κs s promise) typed trace =

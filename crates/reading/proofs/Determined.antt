@@ -2,39 +2,29 @@
 use mathlib.Core.Path.{◌≡◌, refl, sym, ◌∙◌}
 use contract.Lifetimes.{Lfts}
 use borrow.Fn.Kinds.{Dens}
-use Rattle.bson.specs.Answer.{Answer}
 use Rattle.bson.specs.Bytes as bytes
-use Rattle.bson.specs.Step as step
-use Rattle.bson.specs.Value as paper
-use Rattle.laws.proofs.Determined.{Determined, DeterminedPart, injective_by, unsaid_at}
+use Rattle.laws.proofs.Determined.{Determined, DeterminedPart, injective_by}
 use Rattle.iter.proofs.Determined.{unsaid_element}
 use Rattle.part.specs.Said.{said_part}
 use Rattle.part.proofs.Determined.{unsaid_part}
 use Rattle.value.proofs.Determined.{unsaid_value, value_again}
-use Rattle.reading.specs.Said.{said, said_located, said_parts}
-use Rattle.reading.specs.declared.Reading.{Reading}
-use Rattle.reading.specs.declared.Reading.TheVariants.{Is, Refused}
-use Rattle.reading.specs.declared.Located.{Located}
-use Rattle.reading.specs.declared.Located.TheVariants as located
+use Rattle.iter.specs.Said.{said_element}
+use Rattle.value.specs.Said.{said_value}
+use Rattle.refusal.proofs.Determined.{placed_by_injective}
+use Rattle.reading.specs.Said.{said_parts}
 use Rattle.reading.specs.declared.TwoParts.{TwoParts}
 use Rattle.reading.proofs.value_of.Reads as value_of_reads
 use Rattle.reading.proofs.value_of.Kinds as value_of_kinds
 use Rattle.reading.proofs.locate.Reads as locate_reads
 use Rattle.reading.proofs.locate.Kinds as locate_kinds
-use Rattle.reading.proofs.read_at_under.Reads as read_at_under_reads
-use Rattle.reading.proofs.read_at_under.Kinds as read_at_under_kinds
 use Rattle.reading.proofs.read_at.Reads as read_at_reads
 use Rattle.reading.proofs.read_at.Kinds as read_at_kinds
-use Rattle.reading.proofs.read_with_under.Reads as read_with_under_reads
-use Rattle.reading.proofs.read_with_under.Kinds as read_with_under_kinds
 use Rattle.reading.proofs.read_with.Reads as read_with_reads
 use Rattle.reading.proofs.read_with.Kinds as read_with_kinds
 use Rattle.reading.proofs.parts_of.Reads as parts_of_reads
 use Rattle.reading.proofs.parts_of.Kinds as parts_of_kinds
 use Rattle.reading.proofs.part_of.Reads as part_of_reads
 use Rattle.reading.proofs.part_of.Kinds as part_of_kinds
-use Rattle.reading.proofs.part_at_under.Reads as part_at_under_reads
-use Rattle.reading.proofs.part_at_under.Kinds as part_at_under_kinds
 use Rattle.reading.proofs.part_at.Reads as part_at_reads
 use Rattle.reading.proofs.part_at.Kinds as part_at_kinds
 use Rattle.reading.proofs.parts.string.Reads as string_reads
@@ -62,42 +52,19 @@ use Rattle.reading.proofs.parts.scope.Kinds as scope_kinds
 
 -- ---- the element at a place
 
-abbrev unsaid_located : Answer step.Element → Located
-unsaid_located = unsaid_at (λ e. located.Is (unsaid_element e)) located.Refused
-
-located_again : (r : Located) → unsaid_located (said_located r) ≡ r
-located_again (located.Is e) = refl
-located_again (located.Refused number place) = refl
-
 pub locate_determined : (κs : Lfts 1) (a : Dens κs locate_kinds.ps) → Determined (locate_reads.Post κs a)
-locate_determined κs a r₁ r₂ s₁ s₂ p q = injective_by said_located unsaid_located located_again r₁ r₂ (p ∙ sym q)
+locate_determined κs a r₁ r₂ s₁ s₂ p q = placed_by_injective said_element unsaid_element (λ e. refl) r₁ r₂ (p ∙ sym q)
 
 -- ---- readings
 
-abbrev unsaid : Answer paper.Value → Reading
-unsaid = unsaid_at (λ v. Is (unsaid_value v)) Refused
-
-again : (r : Reading) → unsaid (said r) ≡ r
-again (Is v) = rw (value_again v)
-again (Refused number place) = refl
-
-pub said_injective : (a b : Reading) → said a ≡ said b → a ≡ b
-said_injective = injective_by said unsaid again
-
 pub value_of_determined : (κs : Lfts 1) (a : Dens κs value_of_kinds.ps) → Determined (value_of_reads.Post κs a)
-value_of_determined κs a r₁ r₂ s₁ s₂ p q = said_injective r₁ r₂ (p ∙ sym q)
-
-pub read_at_under_determined : (κs : Lfts 1) (a : Dens κs read_at_under_kinds.ps) → Determined (read_at_under_reads.Post κs a)
-read_at_under_determined κs a r₁ r₂ s₁ s₂ p q = said_injective r₁ r₂ (p ∙ sym q)
+value_of_determined κs a r₁ r₂ s₁ s₂ p q = placed_by_injective said_value unsaid_value value_again r₁ r₂ (p ∙ sym q)
 
 pub read_at_determined : (κs : Lfts 1) (a : Dens κs read_at_kinds.ps) → Determined (read_at_reads.Post κs a)
-read_at_determined κs a r₁ r₂ s₁ s₂ p q = said_injective r₁ r₂ (p ∙ sym q)
-
-pub read_with_under_determined : (κs : Lfts 1) (a : Dens κs read_with_under_kinds.ps) → Determined (read_with_under_reads.Post κs a)
-read_with_under_determined κs a r₁ r₂ s₁ s₂ p q = said_injective r₁ r₂ (p ∙ sym q)
+read_at_determined κs a r₁ r₂ s₁ s₂ p q = placed_by_injective said_value unsaid_value value_again r₁ r₂ (p ∙ sym q)
 
 pub read_with_determined : (κs : Lfts 1) (a : Dens κs read_with_kinds.ps) → Determined (read_with_reads.Post κs a)
-read_with_determined κs a r₁ r₂ s₁ s₂ p q = said_injective r₁ r₂ (p ∙ sym q)
+read_with_determined κs a r₁ r₂ s₁ s₂ p q = placed_by_injective said_value unsaid_value value_again r₁ r₂ (p ∙ sym q)
 
 -- ---- parts of a value
 
@@ -109,9 +76,6 @@ parts_of_determined κs a r₁ r₂ s₁ s₂ p q = injective_by said_parts unsa
 
 pub part_of_determined : (κs : Lfts 0) (a : Dens κs part_of_kinds.ps) → Determined (part_of_reads.Post κs a)
 part_of_determined κs a r₁ r₂ s₁ s₂ p q = injective_by said_part unsaid_part (λ r. refl) r₁ r₂ (p ∙ sym q)
-
-pub part_at_under_determined : (κs : Lfts 1) (a : Dens κs part_at_under_kinds.ps) → DeterminedPart (λ x. x.now) (part_at_under_reads.Post κs a)
-part_at_under_determined κs a r₁ r₂ s₁ s₂ p q = p ∙ sym q
 
 pub part_at_determined : (κs : Lfts 1) (a : Dens κs part_at_kinds.ps) → DeterminedPart (λ x. x.now) (part_at_reads.Post κs a)
 part_at_determined κs a r₁ r₂ s₁ s₂ p q = p ∙ sym q

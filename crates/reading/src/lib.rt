@@ -1,28 +1,23 @@
 // Reading a value at a place, and the parts of a value (RULES.md, "Values"; `RawElement::value` in src/raw/iter.rs of the Rust).
-#![tactic(auto)]
+#![tactic(auto, unfolding(bson::specs::Value::value_of, bson::specs::Value::element_at_under, bson::specs::Value::read_at_under, bson::specs::Value::read_with_under, bson::specs::Value::parts_of, bson::specs::Value::part_at_under))]
 
 pub mod parts;
 
 ghost use Rattle.std.specs.Prelude.{◌≡◌};
-ghost use Rattle.bson.specs.Value.{value_of, element_at_under, read_at_under, read_with_under, read_at, read_with, of_tag, parts_of, part_of};
-ghost use Rattle.bson.specs.Value.{part_at_under, part_at};
+ghost use Rattle.bson.specs.Value.{value_of, element_at_under, read_at_under, read_with_under, of_tag, parts_of, part_of};
+ghost use Rattle.bson.specs.Value.{part_at_under};
 ghost use Rattle.bson.specs.Answer.{then};
 ghost use Rattle.cstr.specs.Said.{limit_of};
 ghost use Rattle.iter.specs.Said.{said_element};
 ghost use Rattle.part.specs.Said.{said_part};
+ghost use Rattle.refusal.specs.Said.{placed_by};
 ghost use Rattle.value.specs.Said.{said_value};
-ghost use Rattle.reading.specs.Said.{said, said_located, said_parts, said_which};
+ghost use Rattle.reading.specs.Said.{said_parts, said_which};
 
-use iter::{Cursor, Element, Step};
+use iter::{Cursor, Element};
 use part::Part;
-use value::{Parsed, Value};
-
-// The value, or the number and the place of the refusal.
-#[derive(Clone, Copy)]
-pub enum Reading {
-    Is(Value),
-    Refused { number: u8, place: usize },
-}
+use refusal::{Refusal, Refused};
+use value::Value;
 
 // The parts of a value in the order in which they lie; empty parts for those that it has not.
 #[derive(Clone, Copy)]
@@ -30,98 +25,55 @@ pub struct TwoParts(pub Part, pub Part);
 
 // Which part of a value: the first is the text, the data, the document, the ObjectId, the decimal128, the pattern, the
 // namespace, the code; the second the options, the DBPointer's ObjectId, the scope.
-#[derive(Clone, Copy)]
+#[derive(Clone, Copy, PartialEq, Eq)]
 pub enum Which {
     First,
     Second,
 }
 
 // The value of an element: 9 where it runs past the slice, then 7 and the refusals of its type.
-pub fn value_of(s: &[u8], element: Element) -> Reading
-    ensures { said result ≡ value_of s.now (said_element element) }
+pub fn value_of(s: &[u8], element: Element) -> Result<Value, Refused>
+    ensures { placed_by said_value result ≡ value_of s.now (said_element element) }
 {
-    let place = element.place;
-    let framed = element.value;
-    match value::parse(s, element.tag, framed) {
-        Parsed::Is(value) => Reading::Is(value),
-        Parsed::Refused(number) => Reading::Refused { number, place },
-    }
+    value::parse(s, element.tag, element.value).map_err(|why| why.at(element.place))
 }
 
 // The same, of a value that must have this tag: 17 behind its own refusals.
-fn value_with(s: &[u8], element: Element, tag: u8) -> Reading
-    ensures { said result ≡ then (value_of s.now (said_element element)) (of_tag (said_element element) tag) }
+fn value_with(s: &[u8], element: Element, tag: u8) -> Result<Value, Refused>
+    ensures { placed_by said_value result ≡ then (value_of s.now (said_element element)) (of_tag (said_element element) tag) }
 {
-    let place = element.place;
-    match value_of(s, element) {
-        Reading::Refused { number, place } => Reading::Refused { number, place },
-        Reading::Is(value) => {
-            if element.tag == tag {
-                return Reading::Is(value);
-            }
-            Reading::Refused { number: 17, place }
-        }
+    let value = value_of(s, element)?;
+    if element.tag == tag {
+        return Ok(value);
     }
-}
-
-// The element at a place, or the number and the place of the refusal.
-#[derive(Clone, Copy)]
-pub enum Located {
-    Is(Element),
-    Refused { number: u8, place: usize },
+    Err(Refusal::OtherType.at(element.place))
 }
 
 // Steps to a place: the step's refusals, and 16 at the terminator.
-pub fn locate(s: &[u8], place: usize, limit: usize) -> Located
-    ensures { said_located result ≡ element_at_under (limit_of limit) s.now place }
+pub fn locate(s: &[u8], place: usize, limit: Option<usize>) -> Result<Element, Refused>
+    ensures { placed_by said_element result ≡ element_at_under (limit_of limit) s.now place }
 {
     let cursor = Cursor {
         offset: place,
         ended: false,
     };
-    match iter::next_under(s, cursor, limit) {
-        Step::Refused {
-            number,
-            place,
-            next: _,
-        } => Located::Refused { number, place },
-        Step::End { next: _ } => Located::Refused { number: 16, place },
-        Step::Yield { element, next: _ } => Located::Is(element),
-    }
+    iter::next(s, cursor, limit)
+        .answer?
+        .ok_or(Refusal::Absent.at(place))
 }
 
 // Steps to a place and reads there: the step's refusals, 16 at the terminator, then the value's.
-pub fn read_at_under(s: &[u8], place: usize, limit: usize) -> Reading
-    ensures { said result ≡ read_at_under (limit_of limit) s.now place }
+pub fn read_at(s: &[u8], place: usize, limit: Option<usize>) -> Result<Value, Refused>
+    ensures { placed_by said_value result ≡ read_at_under (limit_of limit) s.now place }
 {
-    match locate(s, place, limit) {
-        Located::Refused { number, place } => Reading::Refused { number, place },
-        Located::Is(element) => value_of(s, element),
-    }
-}
-
-// The same without a limit.
-pub fn read_at(s: &[u8], place: usize) -> Reading
-    ensures { said result ≡ read_at s.now place }
-{
-    read_at_under(s, place, cstr::NO_LIMIT)
+    value_of(s, locate(s, place, limit)?)
 }
 
 // Steps to a place and reads there a value that must have this tag: 17 behind its own refusals.
-pub fn read_with_under(s: &[u8], place: usize, tag: u8, limit: usize) -> Reading
-    ensures { said result ≡ read_with_under (limit_of limit) s.now place tag }
+pub fn read_with(s: &[u8], place: usize, tag: u8, limit: Option<usize>) -> Result<Value, Refused>
+    ensures { placed_by said_value result ≡ read_with_under (limit_of limit) s.now place tag }
 {
-    match locate(s, place, limit) {
-        Located::Refused { number, place } => Reading::Refused { number, place },
-        Located::Is(element) => value_with(s, element, tag),
-    }
-}
-
-// The same without a limit.
-pub fn read_with(s: &[u8], place: usize, tag: u8) -> Reading
-    ensures { said result ≡ read_with s.now place tag }
-{
-    read_with_under(s, place, tag, cstr::NO_LIMIT)
+    value_with(s, locate(s, place, limit)?, tag)
 }
 
 pub fn parts_of(value: Value) -> TwoParts
@@ -154,22 +106,18 @@ pub fn part_of(value: Value, which: Which) -> Part
     }
 }
 
-// A part of the value of this tag at a place, as a part of the slice; empty where `read_with_under`, its twin, refuses.
-pub fn part_at_under<'a>(s: &'a [u8], place: usize, tag: u8, which: Which, limit: usize) -> &'a [u8]
+// A part of the value of this tag at a place, as a part of the slice; empty where `read_with`, its twin, refuses.
+pub fn part_at<'a>(
+    s: &'a [u8],
+    place: usize,
+    tag: u8,
+    which: Which,
+    limit: Option<usize>,
+) -> &'a [u8]
     ensures { result.now ≡ part_at_under (limit_of limit) s.now place tag (said_which which) }
 {
-    match read_with_under(s, place, tag, limit) {
-        Reading::Refused {
-            number: _,
-            place: _,
-        } => &s[..0],
-        Reading::Is(value) => part::bytes_of(s, part_of(value, which)),
+    match read_with(s, place, tag, limit) {
+        Ok(value) => part::bytes_of(s, part_of(value, which)),
+        Err(_) => &s[..0],
     }
-}
-
-// The same without a limit.
-pub fn part_at<'a>(s: &'a [u8], place: usize, tag: u8, which: Which) -> &'a [u8]
-    ensures { result.now ≡ part_at s.now place tag (said_which which) }
-{
-    part_at_under(s, place, tag, which, cstr::NO_LIMIT)
 }

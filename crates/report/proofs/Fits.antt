@@ -19,6 +19,9 @@ use Rattle.laws.specs.FramedAt.{FramedAt}
 use Rattle.laws.proofs.StepLaws.{Each, iterate_each}
 use Rattle.laws.proofs.OutputLaws.{texts_fit}
 use Rattle.laws.proofs.DecimalLaws.{width_within, width_small}
+use Rattle.refusal.specs.Said.{number}
+use Rattle.refusal.specs.declared.Refusal.{Refusal}
+use Rattle.refusal.specs.declared.Refusal.TheVariants as is
 use Rattle.report.proofs.Lines.{accepted_size, refused_size, element_size}
 
 -- the line of a verdict whose numbers the machine holds
@@ -27,6 +30,31 @@ accepted_short count h = omega (arith, accepted_size count _ refl, width_small c
 
 pub refused_short : (number place : ℕ) → number < 2 ^ 64 → place < 2 ^ 64 → length (verdict_line (refuses number place)) ≤ 50
 refused_short number place h g = omega (arith, refused_size number place _ _ refl refl, width_small number h, width_small place g)
+
+-- the numbers of refusals are small
+pub number_small : (why : Refusal) → number why < 256
+number_small is.TooShort = omega arith
+number_small is.LengthDiffers = omega arith
+number_small is.NoTerminator = omega arith
+number_small is.StepOutside = omega arith
+number_small is.NoZero = omega arith
+number_small is.NotUtf8 = omega arith
+number_small is.UnknownTag = omega arith
+number_small is.BadLength = omega arith
+number_small is.PastTheSlice = omega arith
+number_small is.NotEnded = omega arith
+number_small is.BadBoolean = omega arith
+number_small is.BadShape = omega arith
+number_small is.TooDeep = omega arith
+number_small is.NoRoom = omega arith
+number_small is.BadText = omega arith
+number_small is.Absent = omega arith
+number_small is.OtherType = omega arith
+number_small is.OutOfTurn = omega arith
+number_small is.BadArrayKey = omega arith
+number_small is.InputTooLong = omega arith
+number_small is.PathTooLong = omega arith
+number_small is.TooLong = omega arith
 
 -- place and size have five digits at the most
 element_short : (s : List ℕ) (c : Cursor) (e : Element) → FramedAt s c e → length s ≤ 65535 → length (element_line e) ≤ 15

@@ -3,14 +3,16 @@
 
 ghost use Rattle.std.specs.Prelude.{◌≡◌, ◌<◌, ◌≤◌, length, take};
 ghost use Rattle.bson.specs.Answer.{gives, refuses};
-ghost use Rattle.bson.specs.Output.{output, put_text, put_texts};
+ghost use Rattle.bson.specs.Output.{output, put_texts};
 ghost use Rattle.bson.specs.Step.{iterate};
 ghost use Rattle.bson.specs.Report.{hex_digit, element_line, verdict_line, element_lines, report_lines, report};
 ghost use Rattle.iter.specs.Said.{said_element};
-ghost use Rattle.whole.specs.Said.{said};
+ghost use Rattle.output.specs.Puts.{held, Holds, Puts};
+ghost use Rattle.refusal.specs.Said.{number, placed};
 
-use iter::{Cursor, Element, Step};
-use whole::Verdict;
+use iter::{Cursor, Element};
+use output::Output;
+use refusal::{Refusal, Refused};
 
 // A hexadecimal digit in ASCII.
 fn hex_digit(d: u8) -> u8
@@ -20,91 +22,81 @@ fn hex_digit(d: u8) -> u8
     if d < 10 { 48 + d } else { 87 + d }
 }
 
-// Puts the line of an element; the offset behind it, or the same where it does not fit and nothing is written.
-fn put_element(out: &mut [u8], at: usize, element: Element) -> usize
-    ensures { output out.new result ≡ put_text (output out.old at) (element_line (said_element element)) }
+// Puts the line of an element, or nothing where it does not fit.
+fn put_element(output: &mut Output, element: Element)
+    ensures { Puts output.old output.new (element_line (said_element element)) }
 {
-    let place = element.place;
-    let value = element.value;
-    let size = value.size;
-    let line = decimal::width_of(place) + decimal::width_of(size) + 5;
-    if output::fits(out.len(), at, line) {
+    let size = element.value.size;
+    let line = decimal::width_of(element.place) + decimal::width_of(size) + 5;
+    if output::fits(output.buffer.len(), output.used, line) {
         let tag = element.tag;
-        let middle = [b' ', hex_digit(tag / 16), hex_digit(tag % 16), b' '];
-        let a = decimal::put_decimal(out, at, place);
-        let b = output::put_text(out, a, &middle);
-        let c = decimal::put_decimal(out, b, size);
-        return output::put_text(out, c, b"\n");
+        decimal::put_decimal(output, element.place);
+        output.put_text(&[b' ', hex_digit(tag / 16), hex_digit(tag % 16), b' ']);
+        decimal::put_decimal(output, size);
+        output.put_text(b"\n");
     }
-    at
 }
 
-// Puts the line of a verdict that accepts; the offset behind it, or the same where it does not fit and nothing is written.
-fn put_accepted(out: &mut [u8], at: usize, count: usize) -> usize
-    ensures { output out.new result ≡ put_text (output out.old at) (verdict_line (gives count)) }
+// Puts the line of a verdict that accepts, or nothing where it does not fit.
+fn put_accepted(output: &mut Output, count: usize)
+    ensures { Puts output.old output.new (verdict_line (gives count)) }
 {
     let line = decimal::width_of(count) + 10;
-    if output::fits(out.len(), at, line) {
-        let a = output::put_text(out, at, b"accepted ");
-        let b = decimal::put_decimal(out, a, count);
-        return output::put_text(out, b, b"\n");
+    if output::fits(output.buffer.len(), output.used, line) {
+        output.put_text(b"accepted ");
+        decimal::put_decimal(output, count);
+        output.put_text(b"\n");
     }
-    at
 }
 
 // The same for one that refuses.
-fn put_refused(out: &mut [u8], at: usize, number: u8, place: usize) -> usize
-    ensures { output out.new result ≡ put_text (output out.old at) (verdict_line (refuses number place)) }
+fn put_refused(output: &mut Output, refused: Refused)
+    ensures { Puts output.old output.new (verdict_line (refuses (number refused.why) refused.place)) }
 {
-    let n = number as usize;
+    let n = refused.why.number() as usize;
+    let place = refused.place;
     let line = decimal::width_of(n) + decimal::width_of(place) + 10;
-    if output::fits(out.len(), at, line) {
-        let a = output::put_text(out, at, b"refused ");
-        let b = decimal::put_decimal(out, a, n);
-        let c = output::put_text(out, b, b" ");
-        let d = decimal::put_decimal(out, c, place);
-        return output::put_text(out, d, b"\n");
+    if output::fits(output.buffer.len(), output.used, line) {
+        output.put_text(b"refused ");
+        decimal::put_decimal(output, n);
+        output.put_text(b" ");
+        decimal::put_decimal(output, place);
+        output.put_text(b"\n");
     }
-    at
 }
 
-// Puts the line of a verdict; the offset behind it, or the same where it does not fit and nothing is written. The line is short,
-// since the verdict's numbers are the machine's.
-fn put_verdict(out: &mut [u8], at: usize, verdict: Verdict) -> usize
-    ensures result_after { output out.new result ≡ put_text (output out.old at) (verdict_line (said verdict)) }
-    ensures verdict_len_bound { length (verdict_line (said verdict)) ≤ 50 }
+// Puts the line of a verdict, or nothing where it does not fit. The line is short, since the verdict's numbers are the machine's.
+fn put_verdict(output: &mut Output, verdict: Result<usize, Refused>)
+    ensures output_after { Puts output.old output.new (verdict_line (placed verdict)) }
+    ensures verdict_len_bound { length (verdict_line (placed verdict)) ≤ 50 }
 {
     match verdict {
-        Verdict::Accepted(count) => put_accepted(out, at, count),
-        Verdict::Refused { number, place } => put_refused(out, at, number, place),
+        Ok(count) => put_accepted(output, count),
+        Err(refused) => put_refused(output, refused),
     }
 }
 
-// Puts the lines of the elements that steps yield, each where it fits; the offset behind the last.
-fn put_elements(out: &mut [u8], at: usize, s: &[u8]) -> usize
-    ensures { output out.new result ≡ put_texts (output out.old at) (element_lines (iterate s.now 4)) }
+// Puts the lines of the elements that steps yield, each where it fits.
+fn put_elements(output: &mut Output, s: &[u8])
+    ensures { Holds output.old output.new (put_texts (held output.old) (element_lines (iterate s.now 4))) }
 {
-    let mut used = at;
     let mut offset: usize = 4;
     loop {
         let cursor = Cursor {
             offset,
             ended: false,
         };
-        match iter::next(s, cursor) {
-            Step::End { next: _ } => {
-                return used;
+        let step = iter::next(s, cursor, None);
+        match step.answer {
+            Ok(Some(element)) => {
+                put_element(output, element);
+                offset = step.next.offset;
             }
-            Step::Refused {
-                number: _,
-                place: _,
-                next: _,
-            } => {
-                return used;
+            Ok(None) => {
+                return;
             }
-            Step::Yield { element, next } => {
-                used = put_element(out, used, element);
-                offset = next.offset;
+            Err(_) => {
+                return;
             }
         }
     }
@@ -116,10 +108,16 @@ pub fn put_report(out: &mut [u8], s: &[u8]) -> usize
     ensures upper_bound { result ≤ length out.new }
     ensures out_after { 524288 ≤ length out.old → take result out.new ≡ report s.now }
 {
-    let head = output::put_text(out, 0, b"offset tag size\n");
+    let mut output = Output {
+        buffer: out,
+        used: 0,
+    };
+    output.put_text(b"offset tag size\n");
     if s.len() <= 65535 {
-        let end = put_elements(out, head, s);
-        return put_verdict(out, end, whole::check(s));
+        put_elements(&mut output, s);
+        put_verdict(&mut output, whole::check(s, None));
+        return output.used;
     }
-    put_refused(out, head, 20, 0)
+    put_refused(&mut output, Refusal::InputTooLong.at(0));
+    output.used
 }

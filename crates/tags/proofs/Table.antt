@@ -13,10 +13,14 @@ use lib.ListN.{length, get_or, take, drop, drop_of_length-le}
 use lib.Seq.{drop-cons}
 use Rattle.bson.specs.Answer.{Answer, gives, refuses}
 use Rattle.bson.specs.Tags.{Sized, fixed, as_string, as_pointer, as_document, as_binary, as_regex, as_scope, tags, row_of, sized_of}
-use Rattle.tags.specs.Said.{said}
+use Rattle.std.specs.Prelude.{Result, Ok, Err}
+use Rattle.refusal.specs.Said.{said_by}
+use Rattle.refusal.specs.declared.Refusal.{Refusal}
+use Rattle.refusal.specs.declared.Refusal.TheVariants.{UnknownTag}
+use Rattle.tags.specs.Said.{said_kind}
 use Rattle.tags.specs.declared.Row.{Row}
 use Rattle.tags.specs.declared.Kind.{Kind}
-use Rattle.tags.specs.declared.Kind.TheVariants.{Fixed, String, Pointer, Document, Binary, Regex, Scope, Unknown}
+use Rattle.tags.specs.declared.Kind.TheVariants.{Fixed, String, Pointer, Document, Binary, Regex, Scope}
 
 -- ---- the constant of the code
 
@@ -37,9 +41,12 @@ table = map (λ r. record { tag = r.tag; kind = as_kind r.sized }) tags
 -- ---- the rule of the table
 
 -- the kind of the first of the rows that has the tag
-abbrev found : List Row → ℕ → Kind
-found [] tag = Unknown
-found (r ∷ rs) tag = cond (eqb r.tag tag) r.kind (found rs tag)
+abbrev found : List Row → ℕ → Result Kind Refusal
+found [] tag = Err UnknownTag
+found (r ∷ rs) tag = cond (eqb r.tag tag) (Ok r.kind) (found rs tag)
+
+abbrev said : Result Kind Refusal → Answer Sized
+said = said_by said_kind
 
 -- the rows that are asked for a tag: above 13 those of min key and max key alone
 abbrev asked : ℕ → List Row
@@ -90,10 +97,10 @@ pub first_row : {rows : List Row} {tag : ℕ} → rows ≡ table → tag < 256 �
 first_row {tag = tag} e small low = record { same = rw (e, ← of_tag_law tag small, le-ltb 19 tag low) }
 
 module _ {rows : List Row} {tag i : ℕ} (s : Searched rows tag i) (d : Row) (h : i < length rows) where
-  asks_row : said (cond (eqb (get_or rows i d).tag tag) (get_or rows i d).kind (found (drop (suc i) rows) tag)) ≡ sized_of tag
+  asks_row : said (cond (eqb (get_or rows i d).tag tag) (Ok (get_or rows i d).kind) (found (drop (suc i) rows) tag)) ≡ sized_of tag
   asks_row = rw (drop-cons rows i d h) at s.same
 
-  pub this_row : (get_or rows i d).tag ≡ tag → said (get_or rows i d).kind ≡ sized_of tag
+  pub this_row : (get_or rows i d).tag ≡ tag → gives (said_kind (get_or rows i d).kind) ≡ sized_of tag
   this_row e = rw (eq-eqb _ tag e) at asks_row
 
   pub next_row : ((get_or rows i d).tag ≡ tag → ⊥) → Searched rows tag (i + 1)

@@ -3,7 +3,10 @@
 
 ghost use Rattle.std.specs.Prelude.{◌≡◌};
 ghost use Rattle.bson.specs.Tags.{sized_of};
-ghost use Rattle.tags.specs.Said.{said};
+ghost use Rattle.refusal.specs.Said.{said_by};
+ghost use Rattle.tags.specs.Said.{said_kind};
+
+use refusal::Refusal;
 
 // The tags, by the names that the Rust gives its element types.
 pub const DOUBLE: u8 = 0x01;
@@ -48,7 +51,7 @@ pub const MIN_KEY: u8 = 0xFF;
 
 pub const MAX_KEY: u8 = 0x7F;
 
-// How a value is sized: its framing class, with its size where that is fixed. `Unknown` is of a tag that is not in the table.
+// How a value is sized: its framing class, with its size where that is fixed.
 #[derive(Clone, Copy)]
 pub enum Kind {
     Fixed(usize),
@@ -58,7 +61,6 @@ pub enum Kind {
     Binary,
     Regex,
     Scope,
-    Unknown,
 }
 
 // A row of the tag table: the tag, and the framing class and fixed size of its values.
@@ -70,7 +72,7 @@ struct Row {
 
 // The tag table, row by row as in RULES.md, "Admission and one step".
 #[rattlefmt::skip]
-const ROWS: [Row; 21] = [
+static ROWS: [Row; 21] = [
     Row { tag: BOOLEAN, kind: Kind::Fixed(1) },
     Row { tag: INT32, kind: Kind::Fixed(4) },
     Row { tag: DOUBLE, kind: Kind::Fixed(8) },
@@ -94,30 +96,26 @@ const ROWS: [Row; 21] = [
     Row { tag: CODE_WITH_SCOPE, kind: Kind::Scope },
 ];
 
-// How the value of a tag is sized, by its row; where no row that is asked has the tag, `Unknown`, which is refused with 7.
+// How the value of a tag is sized, by its row: 7 where no row that is asked has the tag.
 // Above 13 the rows of min key and max key alone are asked, so that the compiler makes the search for the others one jump by the tag.
-pub fn kind_of(tag: u8) -> Kind
-    ensures { said result ≡ sized_of tag }
+pub fn kind_of(tag: u8) -> Result<Kind, Refusal>
+    ensures { said_by said_kind result ≡ sized_of tag }
 {
-    let rows = ROWS;
     if DECIMAL128 < tag {
-        let min_key = rows[10];
+        let min_key = ROWS[10];
         if min_key.tag == tag {
-            return min_key.kind;
+            return Ok(min_key.kind);
         }
-        let max_key = rows[11];
+        let max_key = ROWS[11];
         if max_key.tag == tag {
-            return max_key.kind;
+            return Ok(max_key.kind);
         }
-        return Kind::Unknown;
+        return Err(Refusal::UnknownTag);
     }
-    let mut i = 0;
-    while i < rows.len() {
-        let row = rows[i];
+    for row in &ROWS {
         if row.tag == tag {
-            return row.kind;
+            return Ok(row.kind);
         }
-        i += 1;
     }
-    Kind::Unknown
+    Err(Refusal::UnknownTag)
 }

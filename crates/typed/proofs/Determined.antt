@@ -3,19 +3,10 @@ use Prim.Native.Nat.{ℕ}
 use mathlib.Core.Path.{◌≡◌, refl, sym, ◌∙◌}
 use contract.Lifetimes.{Lfts}
 use borrow.Fn.Kinds.{Dens}
-use Rattle.bson.specs.Answer.{Answer}
-use Rattle.laws.proofs.Determined.{Determined, injective_by, unsaid_at, DeterminedPart}
-use Rattle.typed.specs.Said.{said_f64, said_bool, said_timestamp, said_i32, said_i64}
-use Rattle.typed.specs.declared.F64.{F64}
-use Rattle.typed.specs.declared.F64.TheVariants as f64
-use Rattle.typed.specs.declared.Bool.{Bool}
-use Rattle.typed.specs.declared.Bool.TheVariants as bool
-use Rattle.typed.specs.declared.Timestamp.{Timestamp}
-use Rattle.typed.specs.declared.Timestamp.TheVariants as timestamp
-use Rattle.typed.specs.declared.I32.{I32}
-use Rattle.typed.specs.declared.I32.TheVariants as i32
-use Rattle.typed.specs.declared.I64.{I64}
-use Rattle.typed.specs.declared.I64.TheVariants as i64
+use Rattle.laws.proofs.Determined.{Determined, DeterminedPart}
+use Rattle.num.specs.Said.{said_timestamp}
+use Rattle.num.specs.declared.Timestamp.{Timestamp}
+use Rattle.refusal.proofs.Determined.{placed_injective, placed_by_injective}
 use Rattle.typed.proofs.get_f64.Reads as get_f64_reads
 use Rattle.typed.proofs.get_f64.Kinds as get_f64_kinds
 use Rattle.typed.proofs.get_bool.Reads as get_bool_reads
@@ -43,46 +34,26 @@ use Rattle.typed.proofs.get_regex.Kinds as get_regex_kinds
 
 -- ---- numbers
 
-f64_again : (r : F64) → unsaid_at f64.Bits f64.Refused (said_f64 r) ≡ r
-f64_again (f64.Bits x) = refl
-f64_again (f64.Refused number place) = refl
+abbrev unsaid_timestamp : ℕ × ℕ → Timestamp
+unsaid_timestamp t = record { increment = t.0; seconds = t.1 }
 
 pub get_f64_determined : (κs : Lfts 2) (a : Dens κs get_f64_kinds.ps) → Determined (get_f64_reads.Post κs a)
-get_f64_determined κs a r₁ r₂ s₁ s₂ p q = injective_by said_f64 (unsaid_at f64.Bits f64.Refused) f64_again r₁ r₂ (p ∙ sym q)
-
-bool_again : (r : Bool) → unsaid_at bool.Is bool.Refused (said_bool r) ≡ r
-bool_again (bool.Is x) = refl
-bool_again (bool.Refused number place) = refl
+get_f64_determined κs a r₁ r₂ s₁ s₂ p q = placed_injective r₁ r₂ (p ∙ sym q)
 
 pub get_bool_determined : (κs : Lfts 2) (a : Dens κs get_bool_kinds.ps) → Determined (get_bool_reads.Post κs a)
-get_bool_determined κs a r₁ r₂ s₁ s₂ p q = injective_by said_bool (unsaid_at bool.Is bool.Refused) bool_again r₁ r₂ (p ∙ sym q)
-
-i32_again : (r : I32) → unsaid_at i32.Is i32.Refused (said_i32 r) ≡ r
-i32_again (i32.Is x) = refl
-i32_again (i32.Refused number place) = refl
+get_bool_determined κs a r₁ r₂ s₁ s₂ p q = placed_injective r₁ r₂ (p ∙ sym q)
 
 pub get_i32_determined : (κs : Lfts 2) (a : Dens κs get_i32_kinds.ps) → Determined (get_i32_reads.Post κs a)
-get_i32_determined κs a r₁ r₂ s₁ s₂ p q = injective_by said_i32 (unsaid_at i32.Is i32.Refused) i32_again r₁ r₂ (p ∙ sym q)
-
-i64_again : (r : I64) → unsaid_at i64.Is i64.Refused (said_i64 r) ≡ r
-i64_again (i64.Is x) = refl
-i64_again (i64.Refused number place) = refl
+get_i32_determined κs a r₁ r₂ s₁ s₂ p q = placed_injective r₁ r₂ (p ∙ sym q)
 
 pub get_i64_determined : (κs : Lfts 2) (a : Dens κs get_i64_kinds.ps) → Determined (get_i64_reads.Post κs a)
-get_i64_determined κs a r₁ r₂ s₁ s₂ p q = injective_by said_i64 (unsaid_at i64.Is i64.Refused) i64_again r₁ r₂ (p ∙ sym q)
+get_i64_determined κs a r₁ r₂ s₁ s₂ p q = placed_injective r₁ r₂ (p ∙ sym q)
 
 pub get_datetime_determined : (κs : Lfts 2) (a : Dens κs get_datetime_kinds.ps) → Determined (get_datetime_reads.Post κs a)
-get_datetime_determined κs a r₁ r₂ s₁ s₂ p q = injective_by said_i64 (unsaid_at i64.Is i64.Refused) i64_again r₁ r₂ (p ∙ sym q)
-
-abbrev timestamp_back : Answer (ℕ × ℕ) → Timestamp
-timestamp_back = unsaid_at (λ t. timestamp.Is t.0 t.1) timestamp.Refused
-
-timestamp_again : (r : Timestamp) → timestamp_back (said_timestamp r) ≡ r
-timestamp_again (timestamp.Is increment seconds) = refl
-timestamp_again (timestamp.Refused number place) = refl
+get_datetime_determined κs a r₁ r₂ s₁ s₂ p q = placed_injective r₁ r₂ (p ∙ sym q)
 
 pub get_timestamp_determined : (κs : Lfts 2) (a : Dens κs get_timestamp_kinds.ps) → Determined (get_timestamp_reads.Post κs a)
-get_timestamp_determined κs a r₁ r₂ s₁ s₂ p q = injective_by said_timestamp timestamp_back timestamp_again r₁ r₂ (p ∙ sym q)
+get_timestamp_determined κs a r₁ r₂ s₁ s₂ p q = placed_by_injective said_timestamp unsaid_timestamp (λ t. refl) r₁ r₂ (p ∙ sym q)
 
 -- ---- parts
 

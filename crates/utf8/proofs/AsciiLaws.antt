@@ -1,17 +1,17 @@
 -- AsciiLaws: bytes below 128, and one test of an `or` for all of them.
 use Prim.Native.Nat.{ℕ, suc, ◌+◌, ◌<◌, ◌≤◌}
-use mathlib.Core.Path.{◌≡◌, sym, ◌∙◌}
-use mathlib.Core.List.{List}
-use mathlib.Core.Bool.{◌&&◌, and_assoc, and-true}
+use mathlib.Core.Path.{◌≡◌, refl, sym, ap, ◌∙◌}
+use mathlib.Core.List.{List, [], ◌∷◌, ◌++◌, append_assoc}
+use mathlib.Core.Bool.{Bool, true, ◌&&◌, and_assoc}
 use native.Mathlib.Omega.{arith}
 use native.Mathlib.Numerals.{add-one}
 use lib.Bits.{bit_or, or_lt, or_add_and, and_le_l, and_le_r}
 use lib.Dec.{ltb}
-use lib.ListN.{length, get_or, drop, drop_of_length-le}
+use lib.ListN.{length, get_or, drop}
 use lib.Seq.{drop-cons}
 use borrow.Author.Tests.{lt-ltb, le-ltb, ltb-true, ltb-false}
 use Rattle.laws.proofs.Common.{split}
-use Rattle.utf8.specs.Ascii.{ascii_of}
+use Rattle.utf8.specs.Ascii.{ascii_of, Behind}
 
 -- an `or` is below 128 where both are
 or_small : (a b : ℕ) → ltb (bit_or a b) 128 ≡ ltb a 128 && ltb b 128
@@ -32,5 +32,15 @@ seen_more {v} {all} {j} b h =
     let e = and_assoc (ltb all 128) (ltb (get_or v j 0) 128) (ascii_of (drop (suc j) v)) in
     record { inside = omega arith; same = rw (or_small, add-one) (e ∙ rw (drop-cons v j 0) at b.same) }
 
-pub seen_end : {v : List ℕ} {all j : ℕ} → Seen v all j → length v ≤ j → ltb all 128 ≡ ascii_of v
-seen_end {v} {all} b h = sym (and-true (ltb all 128)) ∙ rw (drop_of_length-le v h) at b.same
+-- ---- blocks of ASCII
+
+ascii_both : (a b : List ℕ) → ascii_of (a ++ b) ≡ ascii_of a && ascii_of b
+ascii_both [] b = refl
+ascii_both (x ∷ a) b = ap (λ (t : Bool). ltb x 128 && t) (ascii_both a b) ∙ sym (and_assoc (ltb x 128) (ascii_of a) (ascii_of b))
+
+pub behind_none : (v : List ℕ) → Behind v v
+behind_none v = record { front = []; is = refl; all = refl }
+
+pub behind_more : {v rest behind : List ℕ} (block : List ℕ) → Behind v rest → rest ≡ block ++ behind → ascii_of block ≡ true → Behind v behind
+behind_more block p e t =
+    record { front = p.front ++ block; is = p.is ∙ rw (e, append_assoc) refl; all = rw (ascii_both p.front block, p.all, t) refl }

@@ -7,13 +7,13 @@ use native.Mathlib.Nat.{add_assoc}
 use native.Mathlib.Omega.{arith}
 use borrow.Author.Tests.{ne_eqb, eqb-true, eqb-false, ltb-true, ltb-false}
 use lib.Dec.{eqb, ltb}
-use lib.ListN.{length, get_or, take, drop, length-drop, take-append-drop, drop_of_length-le}
-use lib.Seq.{drop-cons, drop-drop, length-take-le}
+use lib.ListN.{length, get_or, take, drop, length-append, length-drop, drop_of_length-le}
+use lib.Seq.{drop-cons, drop-drop, drop-append_seam}
 use Rattle.bson.specs.Utf8.{Range, in_range, rows, Left, bad, ranges, begin, next, utf8}
 use Rattle.bson.specs.Lossy.{Piece, piece, longer, follow, piece_of, pieces_for, pieces}
 use Rattle.laws.proofs.Common.{split, rest_part}
 use Rattle.laws.proofs.LossyLaws.{pieces_cons, Characters, none, more, utf8_before}
-use Rattle.utf8.specs.Ascii.{ascii_of}
+use Rattle.utf8.specs.Ascii.{Behind}
 use Rattle.utf8.specs.Chunks.{chunk, behind, first_chunk, chunk_of, at_least_one, Front, Begins}
 use Rattle.utf8.specs.declared.chunks.Chunk.{Chunk}
 use Rattle.utf8.proofs.TextLaws.{ascii_utf8}
@@ -58,9 +58,6 @@ module _ {v : List ℕ} {i : ℕ} (f : Front v i) where
   abbrev rest : List ℕ
   rest = take (length v - i) (drop i v)
 
-  pub front_rest : (n : ℕ) → Front rest n → Front v (i + n)
-  front_rest n g = let h = rw (rest_part v i) at g in front_more f n h.inside h.is
-
   pub front_within : (n m : ℕ) → Begins rest n m → i + (n + m) ≤ length v
   front_within n m b =
       let c = rw (rest_part v i) at b in
@@ -88,16 +85,24 @@ module _ {v : List ℕ} {i : ℕ} (f : Front v i) where
       let z : i + 0 ≡ i = omega arith in
       sym (f.is ∙ ap (λ (w : List ℕ). behind i (chunk_of w)) (drop_of_length-le v h) ∙ ap (λ (n : ℕ). chunk n 0) z)
 
--- a block of ASCII
-pub front_ascii : {v : List ℕ} {i : ℕ} (n : ℕ) → Front v i → i + n ≤ length v → ascii_of (take (i + n - i) (drop i v)) ≡ true → Front v (i + n)
-front_ascii {v} {i} n f h e =
-    let l = length-drop i v in
-    let z : i + n - i ≡ n = omega arith in
-    let w = drop i v in
-    let u : utf8 (take n w) ≡ true = ascii_utf8 (take n w) (rw (← z, e) tt) in
-    front_more f n (omega arith)
-    (ap chunk_of (sym (take-append-drop n w)) ∙ chunk_before (take n w) (drop n w) u
-    ∙ ap (λ (k : ℕ). behind k (chunk_of (drop n w))) (length-take-le n w (omega arith)))
+-- ASCII behind the characters
+module _ {v : List ℕ} {i : ℕ} (f : Front v i) {r : List ℕ} (b : Behind (rest f) r) where
+  abbrev there : ℕ
+  there = length v - length r
+
+  behind_there : there ≡ i + length b.front
+  behind_there = omega (arith, ap length (rw (rest_part v i) at b.is), length-append b.front r, length-drop i v, f.inside)
+
+  pub behind_rest : take (length v - there) (drop there v) ≡ r
+  behind_rest =
+      let d : drop i v ≡ b.front ++ r = rw (rest_part v i) at b.is in
+      rest_part v there ∙ rw (behind_there, ← drop-drop (length b.front) i v, d) (drop-append_seam b.front r)
+
+  pub front_behind : Front v there
+  front_behind =
+      let d : drop i v ≡ b.front ++ r = rw (rest_part v i) at b.is in
+      let e = chunk_before b.front r (ascii_utf8 b.front (rw b.all tt)) in
+      rw behind_there (front_more f (length b.front) (rw d (omega (arith, length-append b.front r))) (rw (d, drop-append_seam b.front r) e))
 
 -- ---- the piece in front
 

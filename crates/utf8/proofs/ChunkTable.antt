@@ -42,8 +42,7 @@ module _ (v : List ℕ) (n : ℕ) where
 -- ---- the loop
 
 -- whole characters before `valid`, and what the state says of the bytes from there to i
-pub record Judging (v c m : List ℕ) (valid state i : ℕ) : Type 0 where
-  pub right : Right c m
+pub record Judging (v : List ℕ) (valid state i : ℕ) : Type 0 where
   pub l : Left
   pub runs : Runs state l
   pub low : valid ≤ i
@@ -60,20 +59,20 @@ pub record Judged (v : List ℕ) (valid state i : ℕ) : Type 0 where
   pub front : Front v valid
   pub onward : Onward (drop valid v) (i - valid) l
 
-pub judging_start : {v c m : List ℕ} → Right c m → Judging v c m 0 0 0
-judging_start {v} t =
-    record { right = t; l = ranges []; runs = first_runs; low = omega arith; high = omega arith; front = front_none v; begun = refl }
+pub judging_start : {v : List ℕ} → Judging v 0 0 0
+judging_start {v} =
+    record { l = ranges []; runs = first_runs; low = omega arith; high = omega arith; front = front_none v; begun = refl }
 
-pub judge : {v c m : List ℕ} {valid state i x : ℕ} → Judging v c m valid state i → i < length v → get_or v i 0 < 256
+pub judge : {c m v : List ℕ} {valid state i x : ℕ} → Right c m → Judging v valid state i → i < length v → get_or v i 0 < 256
     → x ≡ move_of c m (state % 64) (get_or v i 0) → Judged v valid x i
-judge {v} {valid = valid} {i = i} j h k e =
+judge {v = v} {valid = valid} {i = i} t j h k e =
     let b = get_or v i 0 in
     let z : valid + (i - valid) ≡ i = omega (arith, j.low) in
     let g : get_or (drop valid v) (i - valid) 0 ≡ b = get_or-drop valid v (i - valid) 0 ∙ ap (λ (n : ℕ). get_or v n 0) z in
     let n : i - valid < length (drop valid v) = omega (arith, length-drop valid v, j.low) in
     record {
       l = next j.l b;
-      runs = rw e (move_runs b j.right j.runs k);
+      runs = rw e (move_runs b t j.runs k);
       low = j.low;
       high = h;
       front = j.front;
@@ -102,45 +101,42 @@ module _ {v : List ℕ} {valid x i : ℕ} (j : Judged v valid x i) where
       begins_bad (at_least_one (i - valid)) j.front n.0 (omega (arith, n.1, j.low, j.high))
       (onward_bad (drop valid v) (i - valid) j.l (sym (runs_bad j.runs) ∙ eq-eqb (x % 64) 48 e) j.onward)
 
-  module _ (c m : List ℕ) (t : Right c m) where
-    -- a character is whole
-    pub judged_whole : x % 64 ≡ 0 → Judging v c m (i + 1) x (i + 1)
-    judged_whole e =
-        let w = drop valid v in
-        let n = suc (i - valid) in
-        let size = length-drop valid v in
-        let z : valid + n ≡ i + 1 = omega (arith, j.low) in
-        let is : j.l ≡ ranges [] = whole_is j.l (sym (runs_whole j.runs) ∙ eq-eqb (x % 64) 0 e) in
-        let o : piece_in w ≡ piece n true = rw is at j.onward in
-        let f = front_more j.front n (omega (arith, j.low, j.high)) (piece_good n w (omega (arith, j.low, j.high)) o) in
-        record {
-          right = t;
-          l = ranges [];
-          runs = rw is at j.runs;
-          low = omega arith;
-          high = omega (arith, j.high);
-          front = subst (Front v) z f;
-          begun = omega arith;
-        }
+  -- a character is whole
+  pub judged_whole : x % 64 ≡ 0 → Judging v (i + 1) x (i + 1)
+  judged_whole e =
+      let w = drop valid v in
+      let n = suc (i - valid) in
+      let size = length-drop valid v in
+      let z : valid + n ≡ i + 1 = omega (arith, j.low) in
+      let is : j.l ≡ ranges [] = whole_is j.l (sym (runs_whole j.runs) ∙ eq-eqb (x % 64) 0 e) in
+      let o : piece_in w ≡ piece n true = rw is at j.onward in
+      let f = front_more j.front n (omega (arith, j.low, j.high)) (piece_good n w (omega (arith, j.low, j.high)) o) in
+      record {
+        l = ranges [];
+        runs = rw is at j.runs;
+        low = omega arith;
+        high = omega (arith, j.high);
+        front = subst (Front v) z f;
+        begun = omega arith;
+      }
 
-    -- a character is begun
-    pub judged_more : (x % 64 ≡ 48 → ⊥) → (x % 64 ≡ 0 → ⊥) → Judging v c m valid x (i + 1)
-    judged_more p q =
-        let w = drop valid v in
-        let z : suc (i - valid) ≡ i + 1 - valid = omega (arith, j.low) in
-        let fits = sym (runs_bad j.runs) ∙ ne_eqb (x % 64) 48 p in
-        let begun = sym (runs_whole j.runs) ∙ ne_eqb (x % 64) 0 q in
-        record {
-          right = t;
-          l = j.l;
-          runs = j.runs;
-          low = omega (arith, j.low);
-          high = omega (arith, j.high);
-          front = j.front;
-          begun = subst (λ (n : ℕ). Begun w n j.l) z (onward_more w (i - valid) j.l fits begun j.onward);
-        }
+  -- a character is begun
+  pub judged_more : (x % 64 ≡ 48 → ⊥) → (x % 64 ≡ 0 → ⊥) → Judging v valid x (i + 1)
+  judged_more p q =
+      let w = drop valid v in
+      let z : suc (i - valid) ≡ i + 1 - valid = omega (arith, j.low) in
+      let fits = sym (runs_bad j.runs) ∙ ne_eqb (x % 64) 48 p in
+      let begun = sym (runs_whole j.runs) ∙ ne_eqb (x % 64) 0 q in
+      record {
+        l = j.l;
+        runs = j.runs;
+        low = omega (arith, j.low);
+        high = omega (arith, j.high);
+        front = j.front;
+        begun = subst (λ (n : ℕ). Begun w n j.l) z (onward_more w (i - valid) j.l fits begun j.onward);
+      }
 
-module _ {v c m : List ℕ} {valid state i : ℕ} (j : Judging v c m valid state i) where
+module _ {v : List ℕ} {valid state i : ℕ} (j : Judging v valid state i) where
   -- the end of a stretch
   pub judging_stop : 0 < valid → Begins v valid 0
   judging_stop h =

@@ -42,9 +42,13 @@ is_state x l = eqb x (6 * (x / 6)) && (ltb (x / 6) 9 && same_left (left_of (x / 
 
 -- ---- the tables, by one computed test
 
--- the class of b has a number in the table, and the move behind it leaves what the rows leave
+-- every class has its moves
+pub class_few : (c : List ℕ) → below (λ b. ltb (class_of c b) 12) 256 ≡ true → (b : ℕ) → b < 256 → class_of c b < 12
+class_few c t b h = ltb→lt (class_of c b) 12 (below_at (λ b. ltb (class_of c b) 12) 256 (rw t tt) b h)
+
+-- the move behind b leaves what the rows leave
 abbrev is_right : List ℕ → List ℕ → ℕ → ℕ → Bool
-is_right c m k b = ltb (class_of c b) 12 && is_state (move_of c m (6 * k) b % 64) (next (left_of k) b)
+is_right c m k b = is_state (move_of c m (6 * k) b % 64) (next (left_of k) b)
 
 -- "the class rule is proved once over the whole table"
 pub record Right (c m : List ℕ) : Type 0 where
@@ -52,11 +56,6 @@ pub record Right (c m : List ℕ) : Type 0 where
 
 table_right : {c m : List ℕ} → Right c m → (k b : ℕ) → k < 9 → b < 256 → T (is_right c m k b)
 table_right {c} {m} t k b h l = below_at (is_right c m k) 256 (below_at (λ k. below (is_right c m k) 256) 9 (rw t.computed tt) k h) b l
-
-pub class_few : {c m : List ℕ} (b : ℕ) → Right c m → b < 256 → class_of c b < 12
-class_few {c} {m} b t h =
-    let x = move_of c m 0 b % 64 in
-    ltb→lt (class_of c b) 12 (both_left (ltb (class_of c b) 12) (is_state x (next (ranges []) b)) (table_right t 0 b (omega arith) h))
 
 -- ---- a state and what is left of a row
 
@@ -86,7 +85,7 @@ pub move_runs : {c m : List ℕ} {x : ℕ} {l : Left} (b : ℕ) → Right c m �
 move_runs {c} {m} {x} {l} b t r h =
     let y = move_of c m (6 * r.k) b in
     let w = next (left_of r.k) b in
-    rw (r.is, r.leaves) (is_state_runs y w (both_right (ltb (class_of c b) 12) (is_state (y % 64) w) (table_right t r.k b r.few h)))
+    rw (r.is, r.leaves) (is_state_runs y w (table_right t r.k b r.few h))
 
 -- no byte is read yet
 pub first_runs : Runs 0 (ranges [])
@@ -109,32 +108,26 @@ runs_bad r =
 -- ---- the loop
 
 -- the bytes from i on decide, with what is left in the state
-pub record Going (s c m : List ℕ) (state i : ℕ) : Type 0 where
-  pub right : Right c m
+pub record Going (s : List ℕ) (state i : ℕ) : Type 0 where
   pub l : Left
   pub runs : Runs state l
   pub inside : i ≤ length s
   pub same : whole (read l (drop i s)) ≡ utf8 s
 
-pub going_class : {s c m : List ℕ} {state i : ℕ} (b : ℕ) → Going s c m state i → b < 256 → class_of c b < 12
-going_class b g h = class_few b g.right h
-
-pub going_start : {s c m : List ℕ} → Right c m → Going s c m 0 0
+pub going_start : {s : List ℕ} → Going s 0 0
 unfolding utf8
-going_start t =
-    record { right = t; l = ranges []; runs = first_runs; inside = omega arith; same = refl }
+going_start = record { l = ranges []; runs = first_runs; inside = omega arith; same = refl }
 
-pub going_on : {s c m : List ℕ} {state i x : ℕ} → Going s c m state i → i < length s → get_or s i 0 < 256
+pub going_on : {c m s : List ℕ} {state i x : ℕ} → Right c m → Going s state i → i < length s → get_or s i 0 < 256
     → x ≡ move_of c m (state % 64) (get_or s i 0)
-    → Going s c m x (i + 1)
-going_on {s} {i = i} g h k e =
+    → Going s x (i + 1)
+going_on {s = s} {i = i} t g h k e =
     record {
-      right = g.right;
       l = next g.l (get_or s i 0);
-      runs = rw e (move_runs (get_or s i 0) g.right g.runs k);
+      runs = rw e (move_runs (get_or s i 0) t g.runs k);
       inside = omega arith;
       same = rw add-one (sym (ap (λ (w : List ℕ). whole (read g.l w)) (drop-cons s i 0 h)) ∙ g.same);
     }
 
-pub going_end : {s c m : List ℕ} {state i : ℕ} → Going s c m state i → length s ≤ i → eqb (state % 64) 0 ≡ utf8 s
+pub going_end : {s : List ℕ} {state i : ℕ} → Going s state i → length s ≤ i → eqb (state % 64) 0 ≡ utf8 s
 going_end {s} g h = runs_whole g.runs ∙ rw (drop_of_length-le s h) at g.same

@@ -1,6 +1,7 @@
 // A text that may be damaged, chunk by chunk (RULES.md, request 4; `Utf8Chunks` of the Rust's library).
 ghost use Rattle.std.specs.Prelude.{◌≡◌};
-ghost use Rattle.utf8.specs.Chunks.{chunk_of, Front};
+ghost use Rattle.utf8.specs.Ascii.{Behind};
+ghost use Rattle.utf8.specs.Chunks.{chunk_of};
 
 use crate::{ascii, table};
 
@@ -11,19 +12,18 @@ pub struct Chunk {
     pub invalid: usize,
 }
 
-// How many bytes of ASCII are in front, in blocks as the check has them.
-fn ascii_len(v: &[u8]) -> usize
-    ensures { Front v.now result }
+// What is left behind the blocks of ASCII in front, which are those of the check.
+fn behind_ascii(v: &[u8]) -> &[u8]
+    ensures { Behind v.now result.now }
 {
-    let mut i = 0;
-    while 32 <= v.len() - i {
-        let e = i + 32;
-        if !ascii(&v[i..e]) {
-            return i;
+    let mut rest = v;
+    while let Some((block, behind)) = rest.split_at_checked(32) {
+        if !ascii(block) {
+            return rest;
         }
-        i = e;
+        rest = behind;
     }
-    i
+    rest
 }
 
 // The first chunk of a text: blocks of ASCII are passed over, and what is not ASCII is judged by table, some bytes at a time.
@@ -32,9 +32,9 @@ pub fn next_chunk(v: &[u8]) -> Chunk
 {
     let mut valid = 0;
     while valid < v.len() {
-        let start = valid + ascii_len(&v[valid..]);
-        let chunk = table::some_characters(&v[start..]);
-        valid = start + chunk.valid;
+        let rest = behind_ascii(&v[valid..]);
+        let chunk = table::some_characters(rest);
+        valid = v.len() - rest.len() + chunk.valid;
         if 0 < chunk.invalid {
             return Chunk {
                 valid,

@@ -13,11 +13,9 @@ ghost use Rattle.utf8.specs.Ascii.{ascii_of};
 fn ascii(v: &[u8]) -> bool
     ensures { result ≡ ascii_of v.now }
 {
-    let mut all: u8 = 0;
-    let mut j = 0;
-    while j < v.len() {
-        all = all | v[j];
-        j += 1;
+    let mut all = 0;
+    for b in v {
+        all |= *b;
     }
     all < 128
 }
@@ -47,34 +45,33 @@ fn ends_in_ascii(s: &[u8]) -> bool
 fn by_eights(s: &[u8]) -> bool
     ensures { result ≡ utf8 s.now }
 {
-    let mut i = 0;
-    while 8 <= s.len() - i {
-        let e = i + 8;
-        if !ascii(&s[i..e]) {
-            return mixed(&s[i..]);
+    let mut left = s;
+    while let Some((block, behind)) = left.split_at_checked(8) {
+        if !ascii(block) {
+            return mixed(left);
         }
-        i = e;
+        left = behind;
     }
     if ends_in_ascii(s) {
         return true;
     }
-    mixed(&s[i..])
+    mixed(left)
 }
 
-// Whether s is UTF-8: blocks of ASCII are passed over. What is not ASCII is read from k on, three bytes before its block: were the block's
-// own first bytes read anew, the compiler would load these one by one, and no longer the block as a whole.
+// Whether s is UTF-8: blocks of ASCII are passed over. Most keys are shorter than a block, and are not to pay for the loops. `by_eights` has a
+// loop of its own and does not share this one: a text of 8 to 31 bytes would take half as many instructions again.
 pub fn is_utf8(s: &[u8]) -> bool
     ensures { result ≡ utf8 s.now }
 {
-    let mut k = 0;
-    let mut i = 0;
-    while 32 <= s.len() - i {
-        let e = i + 32;
-        if !ascii(&s[i..e]) {
-            return mixed(&s[k..]);
-        }
-        k = e - 3;
-        i = e;
+    if s.len() < 8 {
+        return ascii(s) || table::by_table(s);
     }
-    by_eights(&s[i..])
+    let mut rest = s;
+    while let Some((block, behind)) = rest.split_at_checked(32) {
+        if !ascii(block) {
+            return mixed(rest);
+        }
+        rest = behind;
+    }
+    by_eights(rest)
 }

@@ -1,14 +1,14 @@
 // Whether bytes are UTF-8 (RFC 3629), by a class for each byte and a move for each class and state (RULES.md, request 8).
-ghost use Rattle.std.specs.Prelude.{◌-◌, ◌%◌, ◌<◌, ◌≤◌, ◌≡◌};
+ghost use Rattle.std.specs.Prelude.{◌-◌, ◌%◌, ◌≤◌, ◌≡◌};
 ghost use Rattle.bson.specs.Utf8.{utf8};
 ghost use Rattle.utf8.specs.Chunks.{chunk, at_least_one, Begins};
-ghost use Rattle.utf8.specs.Moves.{class_of, move_of};
+ghost use Rattle.utf8.specs.Moves.{move_of};
 
 use crate::chunks::Chunk;
 
 // The class of each byte: those of one class are alike behind whatever comes before them.
 #[rattlefmt::skip]
-const CLASSES: [u8; 256] = [
+static CLASSES: [u8; 256] = [
     0, 0, 0, 0, 0, 0, 0, 0, 0, 0, 0, 0, 0, 0, 0, 0, // 00 to 0F
     0, 0, 0, 0, 0, 0, 0, 0, 0, 0, 0, 0, 0, 0, 0, 0, // 10 to 1F
     0, 0, 0, 0, 0, 0, 0, 0, 0, 0, 0, 0, 0, 0, 0, 0, // 20 to 2F
@@ -31,7 +31,7 @@ const CLASSES: [u8; 256] = [
 // octal digits that are then the last are the state behind. 00: no character is begun. 06, 14, 22: one, two, three tails are to come; 30,
 // 36, 44, 52: those behind E0, ED, F0, F4. 60: no character fits.
 #[rattlefmt::skip]
-const MOVES: [u64; 12] = [
+static MOVES: [u64; 12] = [
     //60 52 44 36 30 22 14 06 00 before
     0o60_60_60_60_60_60_60_60_00, // 0: 00 to 7F
     0o60_14_60_06_60_14_06_00_60, // 1: 80 to 8F
@@ -48,25 +48,20 @@ const MOVES: [u64; 12] = [
 ];
 
 // The state behind b, in the six lowest bits.
-fn after(classes: &[u8; 256], moves: &[u64; 12], state: u64, b: u8) -> u64
-    requires { class_of classes.now b < 12 }
-    ensures { result ≡ move_of classes.now moves.now (state % 64) b }
+fn after(state: u64, b: u8) -> u64
+    ensures { result ≡ move_of CLASSES MOVES (state % 64) b }
 {
-    let class = classes[b as usize] as usize;
-    moves[class] >> (state % 64)
+    let class = CLASSES[b as usize] as usize;
+    MOVES[class] >> (state % 64)
 }
 
-// Whether s is UTF-8. The tables are lent, since each use of a constant stores it anew.
+// Whether s is UTF-8.
 pub fn by_table(s: &[u8]) -> bool
     ensures { result ≡ utf8 s.now }
 {
-    let classes = CLASSES;
-    let moves = MOVES;
     let mut state = 0;
-    let mut i = 0;
-    while i < s.len() {
-        state = after(&classes, &moves, state, s[i]);
-        i += 1;
+    for b in s {
+        state = after(state, *b);
     }
     state % 64 == 0
 }
@@ -96,26 +91,22 @@ fn broken(valid: usize, i: usize) -> Chunk
 pub fn some_characters(v: &[u8]) -> Chunk
     ensures { Begins v.now result.valid result.invalid }
 {
-    let classes = CLASSES;
-    let moves = MOVES;
     let mut valid = 0;
     let mut left = 0;
-    let mut i = 0;
-    while i < v.len() {
+    for i in 0..v.len() {
         if STRETCH <= valid {
             return Chunk { valid, invalid: 0 };
         }
-        left = after(&classes, &moves, left, v[i]);
+        left = after(left, v[i]);
         if left % 64 == NO_CHARACTER {
             return broken(valid, i);
         }
-        i += 1;
         if left % 64 == 0 {
-            valid = i;
+            valid = i + 1;
         }
     }
     Chunk {
         valid,
-        invalid: i - valid,
+        invalid: v.len() - valid,
     }
 }

@@ -25,13 +25,12 @@ pub fn by_window(s: &[u8]) -> bool
     let b = part::byte_or_zero(s, 1);
     let c = part::byte_or_zero(s, 2);
     let mut any = is_stray(a, 0, 0, 0) | is_stray(b, a, 0, 0) | is_stray(c, b, a, 0);
-    let mut j = 3;
-    while j < s.len() {
-        any = any | is_stray(s[j], s[j - 1], s[j - 2], s[j - 3]);
-        j += 1;
+    let end = s.len().max(3);
+    for j in 3..end {
+        any |= is_stray(s[j], s[j - 1], s[j - 2], s[j - 3]);
     }
-    let x = part::byte_or_zero(s, j - 1);
-    let y = part::byte_or_zero(s, j - 2);
-    let z = part::byte_or_zero(s, j - 3);
+    let x = part::byte_or_zero(s, end - 1);
+    let y = part::byte_or_zero(s, end - 2);
+    let z = part::byte_or_zero(s, end - 3);
     !(any | is_stray(0, x, y, z))
 }

@@ -2,21 +2,18 @@
 use mathlib.Core.Path.{◌≡◌, refl, sym, ◌∙◌}
 use contract.Lifetimes.{Lfts}
 use borrow.Fn.Kinds.{Dens}
-use Rattle.bson.specs.Answer.{Answer}
 use Rattle.bson.specs.Lossy as lossy
 use Rattle.bson.specs.Value as paper
 use Rattle.bson.specs.Value.{leaf, boolean, int32, int64, date_time, double, timestamp, object_id, decimal128, string, code, symbol, null}
 use Rattle.bson.specs.Value.{undefined, min_key, max_key, db_pointer, binary, regex, document, array, code_with_scope}
-use Rattle.laws.proofs.Determined.{Determined, injective_by, unsaid}
+use Rattle.laws.proofs.Determined.{Determined}
 use Rattle.part.proofs.Determined.{unsaid_part}
-use Rattle.value.specs.Said.{said, said_value}
+use Rattle.refusal.proofs.Determined.{said_by_injective}
+use Rattle.value.specs.Said.{said_value}
 use Rattle.value.specs.declared.Value.{Value}
 use Rattle.value.specs.declared.Value.TheVariants as is
-use Rattle.value.specs.declared.Parsed.{Parsed}
-use Rattle.value.specs.declared.Parsed.TheVariants.{Is, Refused}
 use Rattle.value.specs.Texts.{said_text}
 use Rattle.value.specs.declared.texts.Text.{Text}
-use Rattle.value.specs.declared.texts.Text.TheVariants as texts
 use Rattle.value.proofs.parse.Reads as parse_reads
 use Rattle.value.proofs.parse.Kinds as parse_kinds
 use Rattle.value.proofs.texts.text_of.Reads as text_of_reads
@@ -68,22 +65,11 @@ value_again (is.Decimal128 p) = refl
 value_again is.MinKey = refl
 value_again is.MaxKey = refl
 
-abbrev unsaid_parsed : Answer paper.Value → Parsed
-unsaid_parsed = unsaid (λ v. Is (unsaid_value v)) Refused
-
-parsed_again : (r : Parsed) → unsaid_parsed (said r) ≡ r
-parsed_again (Is v) = rw (value_again v)
-parsed_again (Refused k) = refl
-
 pub parse_determined : (κs : Lfts 1) (a : Dens κs parse_kinds.ps) → Determined (parse_reads.Post κs a)
-parse_determined κs a r₁ r₂ s₁ s₂ p q = injective_by said unsaid_parsed parsed_again r₁ r₂ (p ∙ sym q)
+parse_determined κs a r₁ r₂ s₁ s₂ p q = said_by_injective said_value unsaid_value value_again r₁ r₂ (p ∙ sym q)
 
-abbrev unsaid_text : Answer lossy.Text → Text
-unsaid_text = unsaid (λ t. texts.Is (unsaid_part t.text) (unsaid_part t.second)) texts.Refused
-
-text_again : (r : Text) → unsaid_text (said_text r) ≡ r
-text_again (texts.Is text second) = refl
-text_again (texts.Refused k) = refl
+abbrev unsaid_text : lossy.Text → Text
+unsaid_text t = record { text = unsaid_part t.text; second = unsaid_part t.second }
 
 pub text_of_determined : (κs : Lfts 1) (a : Dens κs text_of_kinds.ps) → Determined (text_of_reads.Post κs a)
-text_of_determined κs a r₁ r₂ s₁ s₂ p q = injective_by said_text unsaid_text text_again r₁ r₂ (p ∙ sym q)
+text_of_determined κs a r₁ r₂ s₁ s₂ p q = said_by_injective said_text unsaid_text (λ t. refl) r₁ r₂ (p ∙ sym q)

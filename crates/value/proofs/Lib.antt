@@ -1,3 +1,2 @@
 pub mod Determined
-pub mod Unlisted
-pub mod CodeLaws
+pub mod Sizes

@@ -1,17 +1,12 @@
--- What the cases of a value and of an answer say on paper, and what the inner functions answer (RULES.md, "Values").
-use Rattle.std.specs.Prelude.{ℕ, ◌+◌, cond, eqb, ℤ}
-use Rattle.bson.specs.Answer.{Answer, gives, refuses, then}
-use Rattle.bson.specs.Bytes as paper
-use Rattle.bson.specs.Value.{Leaf, leaf, boolean, int32, int64, date_time, double, timestamp, object_id, decimal128, string, code, symbol}
+-- What the cases of a value say on paper (RULES.md, "Values").
+use Rattle.bson.specs.Value.{leaf, boolean, int32, int64, date_time, double, timestamp, object_id, decimal128, string, code, symbol}
 use Rattle.bson.specs.Value.{null, undefined, min_key, max_key, db_pointer, binary, regex, document, array, code_with_scope}
-use Rattle.bson.specs.Value as value
+use Rattle.bson.specs.Value as paper
 use Rattle.part.specs.Said.{said_part}
 use Rattle.value.specs.declared.Value.{Value}
 use Rattle.value.specs.declared.Value.TheVariants as is
-use Rattle.value.specs.declared.Parsed.{Parsed}
-use Rattle.value.specs.declared.Parsed.TheVariants.{Is, Refused}
 
-abbrev pub said_value : Value → value.Value
+abbrev pub said_value : Value → paper.Value
 said_value (is.Double bits) = leaf (double bits)
 said_value (is.String p) = leaf (string (said_part p))
 said_value (is.Document p) = document (said_part p)
@@ -33,21 +28,3 @@ said_value (is.Int64 n) = leaf (int64 n)
 said_value (is.Decimal128 p) = leaf (decimal128 (said_part p))
 said_value is.MinKey = leaf min_key
 said_value is.MaxKey = leaf max_key
-
-abbrev pub said : Parsed → Answer value.Value
-said (Is v) = gives (said_value v)
-said (Refused k) = refuses k 0
-
--- an int64 or a datetime, by its tag
-abbrev pub as_long : ℕ → ℤ → Leaf
-as_long tag n = cond (eqb tag 0x09) (date_time n) (int64 n)
-
--- a string, code or symbol, by its tag
-abbrev pub as_text : ℕ → paper.Part → Leaf
-as_text tag p = cond (eqb tag 0x0D) (code p) (cond (eqb tag 0x0E) (symbol p) (string p))
-
--- a regex that lies from an offset on
-abbrev pub as_regex : ℕ → Answer (paper.Part × paper.Part) → Answer value.Value
-as_regex offset a =
-    then a λ r.
-    gives (leaf (regex (paper.part offset r.0.size) (paper.part (offset + r.1.offset) r.1.size)))

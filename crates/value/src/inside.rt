@@ -1,25 +1,40 @@
 // What the bytes of a framed value are tested for: text, the second length of old binary data, code and its scope (RULES.md,
 // "Values"; src/raw/value.rs of the Rust).
-ghost use Rattle.std.specs.Prelude.{◌≡◌};
-ghost use Rattle.bson.specs.Bytes.{bytes};
-ghost use Rattle.bson.specs.Utf8.{utf8};
-ghost use Rattle.bson.specs.Value.{declares_data};
-ghost use Rattle.part.specs.Said.{said_length, said_part};
-ghost use Rattle.value.specs.Code.{code_size, scope_at, shown_code_size};
+ghost use Rattle.std.specs.Prelude.{◌+◌, ◌≡◌, length, drop, leb, ltb};
+ghost use Rattle.bson.specs.Answer.{unless};
+ghost use Rattle.bson.specs.Framing.{string_size};
+ghost use Rattle.bson.specs.Step.{admitted};
+ghost use Rattle.bson.specs.Value.{declares_data, text};
+ghost use Rattle.part.specs.Said.{said_part};
+ghost use Rattle.refusal.specs.Said.{said, said_by};
 
-use num::Uint32;
-use part::{Length, Part};
+use part::Part;
+use refusal::Refusal;
 
 // Three lengths, the zero of an empty code and that of an empty document.
 const MIN_CODE_WITH_SCOPE_SIZE: usize = 14;
 
-pub fn is_text(s: &[u8], part: Part) -> bool
-    ensures { result ≡ utf8 (bytes s.now (said_part part)) }
+// Whether a part lies in the slice.
+pub fn is_within(s: &[u8], part: Part) -> bool
+    ensures { result ≡ leb (part.offset + part.size) (length s.now) }
 {
-    utf8::is_utf8(part::bytes_of(s, part))
+    part.size <= s.len() && part.offset <= s.len() - part.size
+}
+
+// A part that must be UTF-8 (6).
+#[tactic(auto, unfolding(bson::specs::Value::text))]
+pub fn text(s: &[u8], part: Part) -> Result<Part, Refusal>
+    ensures { said_by said_part result ≡ text s.now (said_part part) }
+{
+    if utf8::is_utf8(part::bytes_of(s, part)) {
+        Ok(part)
+    } else {
+        Err(Refusal::NotUtf8)
+    }
 }
 
 // Whether data of subtype 2 begins with a length, not negative, equal to the bytes behind it.
+#[tactic(auto, unfolding(bson::specs::Framing::fits))]
 pub fn is_old_binary(v: &[u8]) -> bool
     ensures { result ≡ declares_data v.now }
 {
@@ -27,60 +42,27 @@ pub fn is_old_binary(v: &[u8]) -> bool
         return false;
     }
     match num::u32_from_slice(&v[5..]) {
-        Uint32::Refused(_) => false,
-        Uint32::Is(n) => {
-            if bounds::NEGATIVE <= n {
-                return false;
-            }
-            (n as usize) == v.len() - 9
-        }
+        Ok(n) => n < bounds::NEGATIVE && n as usize == v.len() - 9,
+        Err(_) => false,
     }
 }
 
-// The document behind the code, from a start on to the end of the value.
-fn scope(v: &[u8], start: usize) -> Length
-    ensures { said_length result ≡ scope_at v.now start }
-{
-    if v.len() <= start {
-        return Length::Refused(12);
-    }
-    raw::admit(&v[start..])
-}
-
-// The code of a value of both, with its length field, before a scope that is admitted: 12, 8, 9, 10, 6, 12, 1, 2, 3, in this order.
-pub fn code_len(v: &[u8]) -> Length
-    ensures { said_length result ≡ code_size v.now }
+// The code of a value of both, with its length field: 12, 8, 9, 10, in this order.
+pub fn code_len(v: &[u8]) -> Result<usize, Refusal>
+    ensures { said result ≡ unless (leb 14 (length v.now)) 12 (string_size (drop 4 v.now)) }
 {
     if v.len() < MIN_CODE_WITH_SCOPE_SIZE {
-        return Length::Refused(12);
+        return Err(Refusal::BadShape);
     }
-    match raw::read_len(&v[4..]) {
-        Length::Refused(number) => Length::Refused(number),
-        Length::Is(n) => {
-            let size = n - 5;
-            if !is_text(v, Part { offset: 8, size }) {
-                return Length::Refused(6);
-            }
-            match scope(v, 4 + n) {
-                Length::Refused(number) => Length::Refused(number),
-                Length::Is(_) => Length::Is(n),
-            }
-        }
-    }
+    raw::read_len(&v[4..])
 }
 
-// The same of a code that is shown with its damage: 12, 8, 9, 10, 12, 1, 2, 3, in this order.
-pub fn shown_code_len(shown: &[u8]) -> Length
-    ensures { said_length result ≡ shown_code_size shown.now }
+// The document behind the code, from a start on to the end of the value: 12, 1, 2, 3, in this order.
+pub fn scope_len(v: &[u8], start: usize) -> Result<usize, Refusal>
+    ensures { said result ≡ unless (ltb start (length v.now)) 12 (admitted (drop start v.now)) }
 {
-    if shown.len() < MIN_CODE_WITH_SCOPE_SIZE {
-        return Length::Refused(12);
+    if v.len() <= start {
+        return Err(Refusal::BadShape);
     }
-    match raw::read_len(&shown[4..]) {
-        Length::Refused(number) => Length::Refused(number),
-        Length::Is(n) => match scope(shown, 4 + n) {
-            Length::Refused(number) => Length::Refused(number),
-            Length::Is(_) => Length::Is(n),
-        },
-    }
+    raw::admit(&v[start..])
 }

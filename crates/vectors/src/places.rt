@@ -1,146 +1,80 @@
 // Questions about a document: at a place a step from any cursor, a value, a part of a value; the whole check.
-use crate::text::{field, number_of, say, say_byte, say_hex, say_number, word_number};
-use crate::values::say_value;
+use crate::text::{Hex, field, number_of};
+use crate::values::{Span, Words};
 use iter::{Cursor, Element, Step};
-use part::Part;
-use reading::{Reading, parts};
-use whole::Verdict;
+use reading::parts;
+use refusal::Refused;
+use std::io;
 
-fn say_refusal(rt: &impl Print, number: u8, place: usize) {
-    say(rt, b"refuses ");
-    say_number(rt, number as u64);
-    say(rt, b" at ");
-    say_number(rt, place as u64);
+fn say_refusal(rt: &impl Print, refused: Refused) -> io::Result<()> {
+    print!(rt; "refuses {} at {}", refused.why.number(), refused.place)
 }
 
-fn say_part(rt: &impl Print, part: Part) {
-    say(rt, b" ");
-    say_number(rt, part.offset as u64);
-    say(rt, b" ");
-    say_number(rt, part.size as u64);
+fn say_element(rt: &impl Print, element: Element) -> io::Result<()> {
+    let place = element.place;
+    let tag = element.tag;
+    print!(rt;
+        "yields {place} tag {tag:02x} key {} value {}",
+        Span(element.key),
+        Span(element.value)
+    )
 }
 
-fn say_element(rt: &impl Print, element: Element) {
-    let key = element.key;
-    let value = element.value;
-    say(rt, b"yields ");
-    say_number(rt, element.place as u64);
-    say(rt, b" tag ");
-    say_byte(rt, element.tag);
-    say(rt, b" key");
-    say_part(rt, key);
-    say(rt, b" value");
-    say_part(rt, value);
-}
-
-fn say_cursor(rt: &impl Print, next: Cursor) {
-    say(rt, b", next ");
-    say_number(rt, next.offset as u64);
-    if next.ended {
-        say(rt, b" ended");
-    } else {
-        say(rt, b" open");
+fn say_step(rt: &impl Print, step: Step) -> io::Result<()> {
+    match step.answer {
+        Ok(Some(element)) => say_element(rt, element)?,
+        Ok(None) => print!(rt; "ends")?,
+        Err(refused) => say_refusal(rt, refused)?,
     }
-}
-
-fn say_step(rt: &impl Print, step: Step) {
-    match step {
-        Step::Yield { element, next } => {
-            say_element(rt, element);
-            say_cursor(rt, next);
-        }
-        Step::End { next } => {
-            say(rt, b"ends");
-            say_cursor(rt, next);
-        }
-        Step::Refused {
-            number,
-            place,
-            next,
-        } => {
-            say_refusal(rt, number, place);
-            say_cursor(rt, next);
-        }
-    }
-}
-
-fn say_bytes(rt: &impl Print, bytes: &[u8]) {
-    if bytes.len() == 0 {
-        say(rt, b"is empty");
-        return;
-    }
-    say(rt, b"gives ");
-    say_hex(rt, bytes);
-}
-
-fn say_reading(rt: &impl Print, reading: Reading) {
-    match reading {
-        Reading::Refused { number, place } => say_refusal(rt, number, place),
-        Reading::Is(value) => {
-            say(rt, b"gives ");
-            say_value(rt, value);
-        }
-    }
-}
-
-fn say_verdict(rt: &impl Print, verdict: Verdict) {
-    match verdict {
-        Verdict::Accepted(n) => {
-            say(rt, b"accepts ");
-            say_number(rt, n as u64);
-        }
-        Verdict::Refused { number, place } => say_refusal(rt, number, place),
-    }
-}
-
-fn part_named<'a>(name: usize, document: &'a [u8], place: usize) -> &'a [u8] {
-    match name {
-        1 => parts::string(document, place),
-        2 => parts::code(document, place),
-        3 => parts::symbol(document, place),
-        4 => parts::document(document, place),
-        5 => parts::array(document, place),
-        6 => parts::binary(document, place),
-        7 => parts::pattern(document, place),
-        8 => parts::options(document, place),
-        9 => parts::namespace(document, place),
-        10 => parts::scope_code(document, place),
-        _ => parts::scope(document, place),
-    }
+    let next = step.next;
+    let state = if next.ended { "ended" } else { "open" };
+    print!(rt; ", next {} {state}", next.offset)
 }
 
 // `step BYTES OFFSET open`, or `ended`.
-pub fn ask_step(rt: &impl Print, line: &[u8], document: &[u8]) {
+pub fn ask_step(rt: &impl Print, line: &[u8], document: &[u8]) -> io::Result<()> {
     let cursor = Cursor {
         offset: number_of(field(line, 2)),
         ended: cstr::equal(field(line, 3), b"ended"),
     };
-    say_step(rt, iter::next(document, cursor));
+    say_step(rt, iter::next(document, cursor, None))
 }
 
 // `read BYTES PLACE`.
-pub fn ask_value(rt: &impl Print, line: &[u8], document: &[u8]) {
-    say_reading(rt, reading::read_at(document, number_of(field(line, 2))));
+pub fn ask_value(rt: &impl Print, line: &[u8], document: &[u8]) -> io::Result<()> {
+    match reading::read_at(document, number_of(field(line, 2)), None) {
+        Ok(value) => print!(rt; "gives {}", Words(value)),
+        Err(refused) => say_refusal(rt, refused),
+    }
 }
 
-// `check BYTES`, and `strict BYTES`.
-pub fn ask_check(rt: &impl Print, strict: bool, document: &[u8]) {
-    if strict {
-        say_verdict(rt, whole::check_strict(document));
-    } else {
-        say_verdict(rt, whole::check(document));
+// What `check BYTES` or `strict BYTES` answers.
+pub fn say_verdict(rt: &impl Print, verdict: Result<usize, Refused>) -> io::Result<()> {
+    match verdict {
+        Ok(n) => print!(rt; "accepts {n}"),
+        Err(refused) => say_refusal(rt, refused),
     }
 }
 
 // `part BYTES PLACE NAME`.
-pub fn ask_part(rt: &impl Print, line: &[u8], document: &[u8]) {
-    let name = word_number(
-        b"string code symbol document array binary pattern options namespace scope_code scope",
-        field(line, 3),
-    );
-    if name == 0 {
-        say(rt, b"is no question");
-        return;
+pub fn ask_part(rt: &impl Print, line: &[u8], document: &[u8]) -> io::Result<()> {
+    let place = number_of(field(line, 2));
+    let part = match field(line, 3) {
+        b"string" => parts::string(document, place),
+        b"code" => parts::code(document, place),
+        b"symbol" => parts::symbol(document, place),
+        b"document" => parts::document(document, place),
+        b"array" => parts::array(document, place),
+        b"binary" => parts::binary(document, place),
+        b"pattern" => parts::pattern(document, place),
+        b"options" => parts::options(document, place),
+        b"namespace" => parts::namespace(document, place),
+        b"scope_code" => parts::scope_code(document, place),
+        b"scope" => parts::scope(document, place),
+        _ => return print!(rt; "is no question"),
+    };
+    if part.is_empty() {
+        return print!(rt; "is empty");
     }
-    say_bytes(rt, part_named(name, document, number_of(field(line, 2))));
+    print!(rt; "gives {}", Hex(part))
 }

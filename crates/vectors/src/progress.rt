@@ -1,19 +1,14 @@
 // How far the replay of documents has come: the answers so far, by what became of them, and the next step.
-use crate::text::{say, say_number};
 use iter::Cursor;
+use std::io;
 
 // The cursor is what the last step left; it has ended where no step follows.
 #[derive(Clone, Copy)]
 pub struct Progress {
-    pub documents: u64,
-    pub alike: u64,
+    documents: u64,
+    alike: u64,
     pub differ: u64,
     pub cursor: Cursor,
-}
-
-// One more, up to a number that no list reaches.
-fn more(n: u64) -> u64 {
-    if n < 1000000000000 { n + 1 } else { n }
 }
 
 impl Progress {
@@ -30,36 +25,30 @@ impl Progress {
         }
     }
 
-    pub fn with_document(mut self, cursor: Cursor) -> Self {
-        self.documents = more(self.documents);
+    pub fn begin_document(&mut self, cursor: Cursor) {
+        self.documents = self.documents.saturating_add(1);
         self.cursor = cursor;
-        self
     }
 
-    pub fn with_step(mut self, cursor: Cursor, alike: bool) -> Self {
-        self.cursor = cursor;
-        self.with_answer(alike)
-    }
-
-    pub fn with_answer(mut self, alike: bool) -> Self {
+    pub fn count_answer(&mut self, alike: bool) {
         if alike {
-            self.alike = more(self.alike);
+            self.alike = self.alike.saturating_add(1);
         } else {
-            self.differ = more(self.differ);
+            self.differ = self.differ.saturating_add(1);
         }
-        self
     }
 
     // Says the totals where there was a document.
-    pub fn say(self, rt: &impl Print) {
-        if self.documents == 0 {
-            return;
+    pub fn say(self, rt: &impl Print) -> io::Result<()> {
+        let Self {
+            documents,
+            alike,
+            differ,
+            ..
+        } = self;
+        if documents == 0 {
+            return Ok(());
         }
-        say_number(rt, self.documents);
-        say(rt, b" documents, ");
-        say_number(rt, self.alike);
-        say(rt, b" answers alike, ");
-        say_number(rt, self.differ);
-        say(rt, b" differ\n");
+        println!(rt; "{documents} documents, {alike} answers alike, {differ} differ")
     }
 }

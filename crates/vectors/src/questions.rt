@@ -1,94 +1,82 @@
 // Replays a question: a line is a word that names the leaf or the call, its bytes in hexadecimal, and what else it takes;
 // it is printed again with the answer behind it.
-use crate::places::{ask_check, ask_part, ask_step, ask_value};
-use crate::readings::{Reading, boolean, double, int32, int64, length, timestamp, uint32};
-use crate::text::{
-    distance, field, fields_from, limit_of, say, say_number, say_signed, unhex, word_number,
-};
+use crate::places::{ask_part, ask_step, ask_value, say_verdict};
+use crate::text::{field, fields_from, number_of, unhex, yes_or_no};
+use num::Timestamp;
+use refusal::Refusal;
+use std::fmt::Display;
+use std::io;
 
-fn say_yes(rt: &impl Print, b: bool) {
-    if b {
-        say(rt, b"yes");
-    } else {
-        say(rt, b"no");
+fn say_yes(rt: &impl Print, b: bool) -> io::Result<()> {
+    rt.print(yes_or_no(b))
+}
+
+fn say_refusal(rt: &impl Print, why: Refusal) -> io::Result<()> {
+    print!(rt; "refuses {}", why.number())
+}
+
+fn say_given<D: Display + Drop>(rt: &impl Print, answer: Result<D, Refusal>) -> io::Result<()> {
+    match answer {
+        Ok(given) => print!(rt; "gives {given}"),
+        Err(why) => say_refusal(rt, why),
     }
 }
 
-fn say_reading(rt: &impl Print, r: Reading) {
-    match r {
-        Reading::Flag(b) => say_yes(rt, b),
-        Reading::Number(n) => {
-            say(rt, b"gives ");
-            say_number(rt, n);
-        }
-        Reading::Signed(x) => {
-            say(rt, b"gives ");
-            say_signed(rt, x < 0, distance(x));
-        }
-        Reading::Pair(a, b) => {
-            say(rt, b"gives ");
-            say_number(rt, a);
-            say(rt, b" ");
-            say_number(rt, b);
-        }
-        Reading::Refused(number) => {
-            say(rt, b"refuses ");
-            say_number(rt, number as u64);
-        }
-        Reading::Nothing => say(rt, b"is no question"),
+fn say_boolean(rt: &impl Print, answer: Result<bool, Refusal>) -> io::Result<()> {
+    match answer {
+        Ok(b) => say_yes(rt, b),
+        Err(why) => say_refusal(rt, why),
+    }
+}
+
+fn say_timestamp(rt: &impl Print, answer: Result<Timestamp, Refusal>) -> io::Result<()> {
+    match answer {
+        Ok(Timestamp { increment, seconds }) => print!(rt; "gives {increment} {seconds}"),
+        Err(why) => say_refusal(rt, why),
     }
 }
 
 // Framing by a tag, the first byte of the first bytes.
-fn framed(first: &[u8], rest: &[u8]) -> Reading {
-    if first.len() < 1 {
-        return Reading::Nothing;
-    }
-    length(raw::value_len(first[0], rest, cstr::NO_LIMIT))
-}
-
-// What the leaf answers that the line's word names.
-fn ask(line: &[u8], first: &[u8], second: &[u8]) -> Reading {
-    match word_number(
-        b"u32 i32 i64 f64 bool timestamp utf8 cstring valid equal admit value cstring-under",
-        line,
-    ) {
-        1 => uint32(first),
-        2 => int32(first),
-        3 => int64(first),
-        4 => double(first),
-        5 => boolean(first),
-        6 => timestamp(first),
-        7 => Reading::Flag(utf8::is_utf8(first)),
-        8 => length(cstr::read_cstring(first)),
-        9 => Reading::Flag(cstr::is_valid_cstr(first)),
-        10 => Reading::Flag(cstr::equal(first, second)),
-        11 => length(raw::admit(first)),
-        12 => framed(first, second),
-        13 => length(cstr::read_cstring_with_max_len(first, limit_of(field(line, 2)))),
-        _ => Reading::Nothing,
+fn ask_framing(rt: &impl Print, first: &[u8], rest: &[u8]) -> io::Result<()> {
+    match first.first() {
+        Some(tag) => say_given(rt, raw::value_len(*tag, rest, None)),
+        None => print!(rt; "is no question"),
     }
 }
 
-fn say_answer(rt: &impl Print, line: &[u8], first: &[u8], second: &[u8]) {
-    say(rt, line);
-    say(rt, b" ");
-    match word_number(b"step read part check strict", line) {
-        1 => ask_step(rt, line, first),
-        2 => ask_value(rt, line, first),
-        3 => ask_part(rt, line, first),
-        4 => ask_check(rt, false, first),
-        5 => ask_check(rt, true, first),
-        _ => say_reading(rt, ask(line, first, second)),
+// What the call answers that the line's word names.
+fn ask(rt: &impl Print, line: &[u8], first: &[u8], second: &[u8]) -> io::Result<()> {
+    match field(line, 0) {
+        b"step" => ask_step(rt, line, first),
+        b"read" => ask_value(rt, line, first),
+        b"part" => ask_part(rt, line, first),
+        b"check" => say_verdict(rt, whole::check(first, None)),
+        b"strict" => say_verdict(rt, whole::check_strict(first, None)),
+        b"u32" => say_given(rt, num::u32_from_slice(first)),
+        b"i32" => say_given(rt, num::i32_from_slice(first)),
+        b"i64" => say_given(rt, num::i64_from_slice(first)),
+        b"f64" => say_given(rt, num::f64_from_slice(first)),
+        b"bool" => say_boolean(rt, num::bool_from_slice(first)),
+        b"timestamp" => say_timestamp(rt, num::timestamp_from_slice(first)),
+        b"utf8" => say_yes(rt, utf8::is_utf8(first)),
+        b"cstring" => say_given(rt, cstr::read_cstring(first)),
+        b"valid" => say_yes(rt, cstr::is_valid_cstr(first)),
+        b"equal" => say_yes(rt, cstr::equal(first, second)),
+        b"admit" => say_given(rt, raw::admit(first)),
+        b"value" => ask_framing(rt, first, second),
+        b"cstring-under" => {
+            let most = number_of(field(line, 2));
+            say_given(rt, cstr::read_cstring_with_max_len(first, Some(most)))
+        }
+        _ => print!(rt; "is no question"),
     }
-    say(rt, b"\n");
 }
 
-// It does little itself: what stands beside so large an array is slow to prove.
-pub fn replay_question(rt: &impl Print, line: &[u8]) {
-    let mut first = [0u8; 4096];
-    let mut second = [0u8; 4096];
-    let n = unhex(field(line, 1), &mut first);
-    let m = unhex(fields_from(line, 2), &mut second);
-    say_answer(rt, line, &first[..n], &second[..m]);
+pub fn replay_question(rt: &(impl Print + AllocGlobal), line: &[u8]) -> io::Result<()> {
+    let first = unhex(rt.alloc(), field(line, 1), 4096)?;
+    let second = unhex(rt.alloc(), fields_from(line, 2), 4096)?;
+    rt.write_all(line)?;
+    rt.write_all(b" ")?;
+    ask(rt, line, &first, &second)?;
+    rt.write_all(b"\n")
 }

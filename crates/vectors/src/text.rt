@@ -1,233 +1,124 @@
 // The bytes of a line: its fields, the numbers and the hexadecimal that stand in them.
-ghost use Rattle.std.specs.Prelude.{◌≡◌, ◌+◌, ◌<◌, ◌≤◌, min, length, take};
+ghost use Rattle.std.specs.Prelude.{◌≡◌, ◌/◌, ◌<◌, min, length, vec_len, IfOk};
 
-// A write that fails is not reported: the totals in the last line say how far the replay came.
-pub fn say(rt: &impl Print, text: &[u8]) {
-    let _ = rt.write_all(text);
+use std::alloc::{AllocError, Global};
+use std::fmt;
+use std::fmt::{Display, Formatter, Write};
+
+// The text from field k on; empty where there are fewer.
+pub fn fields_from(text: &[u8], k: usize) -> &[u8] {
+    text.splitn(k.saturating_add(1), |b| *b == b' ')
+        .nth(k)
+        .unwrap_or(&[])
 }
 
-pub fn say_number(rt: &impl Print, n: u64) {
-    let _ = rt.print(n);
+// Field k, counted from 0; empty where there are fewer.
+pub fn field(text: &[u8], k: usize) -> &[u8] {
+    text.split(|b| *b == b' ').nth(k).unwrap_or(&[])
 }
 
-// A number by its sign and its distance from 0.
-pub fn say_signed(rt: &impl Print, below: bool, n: u64) {
-    if below {
-        say(rt, b"-");
-    }
-    say_number(rt, n);
-}
-
-// The hexadecimal digit of a number below 16.
-fn hex_digit(n: u8) -> u8
-    requires { n < 16 }
-{
-    if n < 10 { b'0' + n } else { b'a' + (n - 10) }
-}
-
-// In two hexadecimal digits.
-pub fn say_byte(rt: &impl Print, b: u8) {
-    say(rt, &[hex_digit(b / 16), hex_digit(b % 16)]);
-}
-
-pub fn say_hex(rt: &impl Print, bytes: &[u8]) {
-    for b in bytes {
-        say_byte(rt, *b);
-    }
-}
-
-// How far a number is from 0.
-pub fn distance(x: i64) -> u64 {
-    x.unsigned_abs()
-}
-
-pub fn wide(x: i32) -> i64 {
-    i64::from(x)
-}
-
-// Whether a field is this number in decimal: its digits from the last on, and none in front of the first.
-fn is_number(field: &[u8], n: u64) -> bool {
-    let mut rest = n;
-    for (i, b) in field.iter().rev().enumerate() {
-        if *b != b'0' + (rest % 10) as u8 {
-            return false;
-        }
-        rest /= 10;
-        if rest == 0 {
-            return i + 1 == field.len();
-        }
-    }
-    false
-}
-
-// The same of field k of a text.
-pub fn is_field(text: &[u8], k: usize, n: u64) -> bool {
-    is_number(field(text, k), n)
-}
-
-// Whether a field is the number of this sign and this distance from 0.
-pub fn is_signed(field: &[u8], below: bool, n: u64) -> bool {
-    if !below {
-        return is_number(field, n);
-    }
-    if field.len() < 1 {
-        return false;
-    }
-    (field[0] == b'-') & is_number(&field[1..], n)
-}
-
-// Whether a field is this byte in two hexadecimal digits.
-pub fn is_byte(field: &[u8], b: u8) -> bool {
-    cstr::equal(field, &[hex_digit(b / 16), hex_digit(b % 16)])
+// What stands in front of the first `;`, or the whole.
+pub fn head_of(line: &[u8]) -> &[u8] {
+    line.split(|b| *b == b';').next().unwrap_or(&[])
 }
 
 // The value of a hexadecimal digit; 0 for any other byte.
 fn digit(b: u8) -> u8
     ensures { result < 16 }
 {
-    if b < b'0' {
-        return 0;
+    match b {
+        b'0'..=b'9' => b - b'0',
+        b'a'..=b'f' => b - b'a' + 10,
+        _ => 0,
     }
-    if b <= b'9' {
-        return b - b'0';
-    }
-    if b < b'a' {
-        return 0;
-    }
-    if b <= b'f' {
-        return b - b'a' + 10;
-    }
-    0
-}
-
-// The byte that a pair of digits names.
-fn pair(digits: &[u8], n: usize) -> u8
-    requires { n + n + 1 < length digits.now }
-{
-    16 * digit(digits[n + n]) + digit(digits[n + n + 1])
-}
-
-// The bytes that pairs of digits name, as many as there is room for, and how many they are.
-pub fn unhex(digits: &[u8], out: &mut [u8]) -> usize
-    ensures within { result ≤ length out.new }
-    ensures front { result ≡ length (take result out.new) }
-{
-    let mut n = 0;
-    while n < out.len() {
-        if digits.len() - n <= n + 1 {
-            return n;
-        }
-        out[n] = pair(digits, n);
-        n += 1;
-    }
-    n
 }
 
 // The byte that the first two digits name; 0 where there are fewer.
 pub fn byte_of(digits: &[u8]) -> u8 {
-    if digits.len() < 2 {
-        return 0;
+    match digits {
+        [high, low, ..] => 16 * digit(*high) + digit(*low),
+        _ => 0,
     }
-    pair(digits, 0)
 }
 
-// Whether all are hexadecimal digits.
-fn is_hex(digits: &[u8]) -> bool {
-    for b in digits {
-        if (digit(*b) == 0) & (*b != b'0') {
-            return false;
-        }
+// The bytes that pairs of digits name, at most so many.
+pub fn unhex(alloc: Global, digits: &[u8], most: usize) -> Result<Vec<u8>, AllocError>
+    ensures { IfOk result (λ bytes. vec_len bytes ≡ min most (length digits.now / 2)) }
+{
+    let (pairs, _) = digits.as_chunks::<2>();
+    pairs
+        .iter()
+        .take(most)
+        .map(|pair| byte_of(pair))
+        .collect(alloc)
+}
+
+// The same in an array; behind them it is zero.
+pub fn unhex_array<const N: usize>(digits: &[u8]) -> [u8; N] {
+    let mut bytes = [0; N];
+    let (pairs, _) = digits.as_chunks::<2>();
+    for (byte, pair) in bytes.iter_mut().zip(pairs) {
+        *byte = byte_of(pair);
     }
-    true
+    bytes
 }
 
 // Whether the bytes are all that the hexadecimal names: no odd digit, no other character, no more than there was room for.
 pub fn is_unhexed(hex: &[u8], bytes: &[u8]) -> bool {
-    (bytes.len() + bytes.len() == hex.len()) & is_hex(hex)
+    let (pairs, odd) = hex.as_chunks::<2>();
+    odd.is_empty()
+        && pairs.len() == bytes.len()
+        && hex.iter().all(|b| matches!(*b, b'0'..=b'9' | b'a'..=b'f'))
 }
 
 // A number with one more decimal digit behind it; one that is too large stays as it is.
 fn with_digit(n: usize, b: u8) -> usize {
-    if n <= 1844674407370955161 {
-        return (10 * n).wrapping_add(digit(b) as usize);
+    match n.checked_mul(10) {
+        Some(tens) => tens.wrapping_add(digit(b) as usize),
+        None => n,
     }
-    n
 }
 
 // The number that decimal digits name.
 pub fn number_of(digits: &[u8]) -> usize {
-    let mut n = 0;
-    for b in digits {
-        n = with_digit(n, *b);
+    digits.iter().copied().fold(0, with_digit)
+}
+
+// Bytes in hexadecimal.
+#[derive(Clone, Copy)]
+pub struct Hex<'a>(pub &'a [u8]);
+
+impl<'a> Display for Hex<'a> {
+    fn fmt<W: fmt::Write>(&self, f: &mut Formatter<W>) -> fmt::Result {
+        for b in self.0 {
+            write!(f, "{b:02x}")?;
+        }
+        Ok(())
     }
-    n
 }
 
-// The limit that decimal digits name. It is set, be it the largest number.
-pub fn limit_of(digits: &[u8]) -> usize {
-    cstr::most_of(number_of(digits))
-}
+// What is still to be met of a text.
+#[derive(Drop)]
+struct Rest<'a>(&'a [u8]);
 
-// The offset of a byte from an offset on, or the end.
-pub fn find(line: &[u8], from: usize, b: u8) -> usize
-    requires { from ≤ length line.now }
-    ensures behind { from ≤ result }
-    ensures within { result ≤ length line.now }
-    ensures front { result ≡ length (take result line.now) }
-{
-    for i in from..line.len() {
-        if line[i] == b {
-            return i;
+impl<'a> fmt::Write for Rest<'a> {
+    fn write_str(&mut self, s: &str) -> fmt::Result {
+        match self.0.strip_prefix(s.as_bytes()) {
+            Some(rest) => {
+                self.0 = rest;
+                Ok(())
+            }
+            None => Err(fmt::Error),
         }
     }
-    line.len()
 }
 
-// The offset behind a space or a newline, or the end.
-pub fn behind(line: &[u8], space: usize) -> usize
-    requires { space ≤ length line.now }
-    ensures { result ≡ min (space + 1) (length line.now) }
-{
-    if space < line.len() {
-        return space + 1;
-    }
-    space
+// Whether a text is just what a value is printed as.
+pub fn is_text<D: Display + Drop>(text: &[u8], value: D) -> bool {
+    let mut rest = Rest(text);
+    rest.write(value).is_ok() && rest.0.is_empty()
 }
 
-// How many fields there are: one more than spaces.
-pub fn field_count(text: &[u8]) -> usize {
-    let mut n = 0;
-    let mut i = find(text, 0, b' ');
-    while i < text.len() {
-        n += 1;
-        i = find(text, i + 1, b' ');
-    }
-    n + 1
-}
-
-// The text from field k on; empty where there are fewer.
-pub fn fields_from(text: &[u8], k: usize) -> &[u8] {
-    let mut from = 0;
-    for _ in 0..k {
-        from = behind(text, find(text, from, b' '));
-    }
-    &text[from..]
-}
-
-// Field k, counted from 0; empty where there are fewer.
-pub fn field(text: &[u8], k: usize) -> &[u8] {
-    let rest = fields_from(text, k);
-    let end = find(rest, 0, b' ');
-    &rest[..end]
-}
-
-// Which of the words is the first field of a text, counted from 1; 0 where none is.
-pub fn word_number(words: &[u8], text: &[u8]) -> usize {
-    let word = field(text, 0);
-    for i in 0..field_count(words) {
-        if cstr::equal(field(words, i), word) {
-            return i + 1;
-        }
-    }
-    0
+pub fn yes_or_no(b: bool) -> &'static str {
+    if b { "yes" } else { "no" }
 }

@@ -9,228 +9,127 @@
 //     string, code, symbol KEY TEXT; binary KEY SUBTYPE DATA; regex KEY PATTERN OPTIONS
 //     dbpointer KEY NAMESPACE ID; objectid KEY ID; decimal128 KEY BYTES
 // `word I N` is no call: it stores a word of the state. A room has at most 2,048 bytes, a key 256, any other field 1,024.
-use crate::documents::{behind_separator, head_of, parts_of};
-use crate::places::ask_check;
-use crate::text::{byte_of, field, find, number_of, say, say_hex, say_number, unhex, word_number};
-use doc_writer::{DocWriter, Written, bytes, scalars};
+use crate::places::say_verdict;
+use crate::text::{Hex, byte_of, field, head_of, number_of, unhex, unhex_array};
+use doc_writer::DocWriter;
+use refusal::Refusal;
+use std::alloc::{AllocError, Global};
+use std::io;
 
-const CALLS: [u8; 162] =
-    *b"open close document array null undefined minkey maxkey boolean int32 int64 datetime double timestamp \
-    string code symbol binary regex dbpointer objectid decimal128";
-
-// Whether a minus stands in front, which names no digit.
-fn is_below(digits: &[u8]) -> bool {
-    if digits.len() < 1 {
-        return false;
+// The number that decimal digits name, below 0 behind a minus, which names no digit; one that is too far is the least.
+fn int64_of(digits: &[u8]) -> i64 {
+    match i64::try_from(number_of(digits)) {
+        Ok(n) if digits.starts_with(b"-") => -n,
+        Ok(n) => n,
+        Err(_) => i64::MIN,
     }
-    digits[0] == b'-'
 }
 
-// A number by its sign and its distance from 0; one that is too far is the least.
-fn int64_of(below: bool, n: usize) -> i64 {
-    if 9223372036854775807 < n {
-        return -9223372036854775808;
-    }
-    if below {
-        return -(n as i64);
-    }
-    n as i64
-}
-
-fn int32_of(below: bool, n: usize) -> i32 {
-    if 2147483647 < n {
-        return -2147483648;
-    }
-    if below {
-        return -(n as i32);
-    }
-    n as i32
+fn int32_of(digits: &[u8]) -> i32 {
+    i32::try_from(int64_of(digits)).unwrap_or(i32::MIN)
 }
 
 // The word that decimal digits name; 0 where it is none.
 fn word_of(digits: &[u8]) -> u32 {
-    let n = number_of(digits);
-    if n <= 4294967295 {
-        return n as u32;
-    }
-    0
+    u32::try_from(number_of(digits)).unwrap_or(0)
 }
 
-// Opens and closes, by the number of the call's word.
-fn nest(which: usize, out: &mut [u8], w: DocWriter, key: &[u8]) -> Written {
-    match which {
-        1 => doc_writer::open(out, w),
-        2 => doc_writer::close(out, w),
-        3 => doc_writer::open_document(out, w, key),
-        _ => doc_writer::open_array(out, w, key),
-    }
-}
-
-fn append_number(which: usize, out: &mut [u8], w: DocWriter, key: &[u8], call: &[u8]) -> Written {
-    let n = number_of(field(call, 2));
-    let below = is_below(field(call, 2));
-    match which {
-        5 => scalars::append_null(out, w, key),
-        6 => scalars::append_undefined(out, w, key),
-        7 => scalars::append_min_key(out, w, key),
-        8 => scalars::append_max_key(out, w, key),
-        9 => scalars::append_bool(out, w, key, n == 1),
-        10 => scalars::append_int32(out, w, key, int32_of(below, n)),
-        11 => scalars::append_int64(out, w, key, int64_of(below, n)),
-        12 => scalars::append_datetime(out, w, key, int64_of(below, n)),
-        13 => scalars::append_double(out, w, key, n as u64),
-        _ => scalars::append_timestamp(
-            out,
-            w,
-            key,
-            word_of(field(call, 2)),
-            word_of(field(call, 3)),
-        ),
-    }
-}
-
-// The id, or the bits, are the last field of the call.
-fn append_id(
-    which: usize,
-    out: &mut [u8],
-    w: DocWriter,
-    key: &[u8],
-    call: &[u8],
-    text: &[u8],
-) -> Written {
-    let mut id = [0u8; 12];
-    let mut bits = [0u8; 16];
-    match which {
-        20 => {
-            unhex(field(call, 3), &mut id);
-            bytes::append_dbpointer(out, w, key, text, &id)
-        }
-        21 => {
-            unhex(field(call, 2), &mut id);
-            bytes::append_object_id(out, w, key, &id)
-        }
-        _ => {
-            unhex(field(call, 2), &mut bits);
-            bytes::append_decimal128(out, w, key, &bits)
-        }
-    }
-}
-
-fn append_text(
-    which: usize,
-    out: &mut [u8],
-    w: DocWriter,
-    key: &[u8],
-    call: &[u8],
-    first: &[u8],
-    second: &[u8],
-) -> Written {
-    match which {
-        15 => bytes::append_string(out, w, key, first),
-        16 => bytes::append_code(out, w, key, first),
-        17 => bytes::append_symbol(out, w, key, first),
-        18 => bytes::append_binary(out, w, key, byte_of(field(call, 2)), second),
-        19 => bytes::append_regex(out, w, key, first, second),
-        _ => append_id(which, out, w, key, call, first),
-    }
-}
-
-// What a call answers; 255, which no call answers, where it is none.
+// What a call answers by its word; none where it is no call.
 fn perform(
     call: &[u8],
     out: &mut [u8],
-    w: DocWriter,
+    w: &mut DocWriter,
     key: &[u8],
     first: &[u8],
     second: &[u8],
-) -> Written {
-    let which = word_number(&CALLS, call);
-    if which == 0 {
-        return Written {
-            number: 255,
-            writer: w,
-        };
-    }
-    if which <= 4 {
-        return nest(which, out, w, key);
-    }
-    if which <= 14 {
-        return append_number(which, out, w, key, call);
-    }
-    append_text(which, out, w, key, call, first, second)
+) -> Option<Result<(), Refusal>> {
+    let a = field(call, 2);
+    let b = field(call, 3);
+    Some(match field(call, 0) {
+        b"open" => w.open(out),
+        b"close" => w.close(out),
+        b"document" => w.open_document(out, key),
+        b"array" => w.open_array(out, key),
+        b"null" => w.append_null(out, key),
+        b"undefined" => w.append_undefined(out, key),
+        b"minkey" => w.append_min_key(out, key),
+        b"maxkey" => w.append_max_key(out, key),
+        b"boolean" => w.append_bool(out, key, number_of(a) == 1),
+        b"int32" => w.append_int32(out, key, int32_of(a)),
+        b"int64" => w.append_int64(out, key, int64_of(a)),
+        b"datetime" => w.append_datetime(out, key, int64_of(a)),
+        b"double" => w.append_double(out, key, number_of(a) as u64),
+        b"timestamp" => w.append_timestamp(out, key, word_of(a), word_of(b)),
+        b"string" => w.append_string(out, key, first),
+        b"code" => w.append_code(out, key, first),
+        b"symbol" => w.append_symbol(out, key, first),
+        b"binary" => w.append_binary(out, key, byte_of(a), second),
+        b"regex" => w.append_regex(out, key, first, second),
+        b"dbpointer" => w.append_dbpointer(out, key, first, &unhex_array(b)),
+        b"objectid" => w.append_object_id(out, key, &unhex_array(a)),
+        b"decimal128" => w.append_decimal128(out, key, &unhex_array(a)),
+        _ => return None,
+    })
 }
 
-fn with_word(w: DocWriter, i: usize, n: u32) -> DocWriter {
-    let mut words = w.words;
-    if i < 406 {
-        words[i] = n;
-    }
-    DocWriter { words }
+// The number that a call answers; 255, which no call answers, where it is none.
+fn number_answered(
+    alloc: Global,
+    call: &[u8],
+    out: &mut [u8],
+    w: &mut DocWriter,
+) -> Result<u8, AllocError> {
+    let key = unhex(alloc, field(call, 1), 256)?;
+    let first = unhex(alloc, field(call, 2), 1024)?;
+    let second = unhex(alloc, field(call, 3), 1024)?;
+    Ok(match perform(call, out, w, &key, &first, &second) {
+        Some(Ok(())) => 0,
+        Some(Err(why)) => why.number(),
+        None => 255,
+    })
 }
 
-// It does little itself: what stands beside so large arrays is slow to prove.
-fn replay_bytes(call: &[u8], out: &mut [u8], w: DocWriter) -> Written {
-    let mut key = [0u8; 256];
-    let mut first = [0u8; 1024];
-    let mut second = [0u8; 1024];
-    let k = unhex(field(call, 1), &mut key);
-    let n = unhex(field(call, 2), &mut first);
-    let m = unhex(field(call, 3), &mut second);
-    perform(call, out, w, &key[..k], &first[..n], &second[..m])
-}
-
-fn replay_call(rt: &impl Print, call: &[u8], out: &mut [u8], w: DocWriter) -> DocWriter {
-    if word_number(b"word", call) == 1 {
-        return with_word(w, number_of(field(call, 1)), word_of(field(call, 2)));
+fn replay_call(
+    rt: &(impl Print + AllocGlobal),
+    call: &[u8],
+    out: &mut [u8],
+    w: &mut DocWriter,
+) -> io::Result<()> {
+    if cstr::equal(field(call, 0), b"word") {
+        if let Some(word) = w.words.get_mut(number_of(field(call, 1))) {
+            *word = word_of(field(call, 2));
+        }
+        return Ok(());
     }
-    let r = replay_bytes(call, out, w);
-    say(rt, b" ");
-    say_number(rt, r.number as u64);
-    r.writer
-}
-
-// The calls, each with its separator in front.
-fn replay_calls(rt: &impl Print, calls: &[u8], out: &mut [u8]) -> DocWriter {
-    let mut w = doc_writer::new();
-    let mut i = 0;
-    while i < calls.len() {
-        let end = find(calls, i + 1, b';');
-        w = replay_call(rt, behind_separator(&calls[i..end]), out, w);
-        i = end;
-    }
-    w
+    let number = number_answered(rt.alloc(), call, out, w)?;
+    print!(rt; " {number}")
 }
 
 // What the session leaves: the used bytes, the buffer, and the whole check of a top that is closed.
-fn say_left(rt: &impl Print, out: &[u8], w: DocWriter) {
-    let words = w.words;
-    let used = words[0] as usize;
-    say(rt, b", used ");
-    say_number(rt, used as u64);
-    say(rt, b" of ");
-    say_hex(rt, out);
-    if (words[1] == 0) & (0 < used) {
-        if used <= out.len() {
-            say(rt, b", ");
-            ask_check(rt, false, &out[0..used]);
-        }
+fn say_left(rt: &impl Print, out: &[u8], w: &DocWriter) -> io::Result<()> {
+    let used = w.words[0] as usize;
+    let depth = w.words[1];
+    print!(rt; ", used {used} of {}", Hex(out))?;
+    if depth == 0 && 0 < used && used <= out.len() {
+        print!(rt; ", ")?;
+        say_verdict(rt, whole::check(&out[..used], None))?;
     }
-    say(rt, b"\n");
+    println!(rt; "")
 }
 
-fn replay_in(rt: &impl Print, line: &[u8], out: &mut [u8]) {
-    say(rt, line);
-    say(rt, b" gives");
-    let w = replay_calls(rt, parts_of(line), out);
-    say_left(rt, out, w);
-}
-
-pub fn replay_session(rt: &impl Print, line: &[u8]) {
-    let mut space = [0xEEu8; 2048];
+pub fn replay_session(rt: &(impl Print + AllocGlobal), line: &[u8]) -> io::Result<()> {
     let room = number_of(field(head_of(line), 1));
     if 2048 < room {
-        say(rt, b"too much room\n");
-        return;
+        return println!(rt; "too much room");
     }
-    replay_in(rt, line, &mut space[0..room]);
+    let mut out = vec![in rt.alloc(); 0xEEu8; room]?;
+    let mut w = DocWriter::new();
+    rt.write_all(line)?;
+    rt.write_all(b" gives")?;
+    for behind in line.split(|b| *b == b';').skip(1) {
+        // where no space follows the `;`, it is no call
+        let call = behind.strip_prefix(b" ").unwrap_or(b";");
+        replay_call(rt, call, &mut out, &mut w)?;
+    }
+    say_left(rt, &out, &w)
 }

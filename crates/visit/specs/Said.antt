@@ -1,22 +1,20 @@
--- What levels, openings and the cases of a visit say on paper (RULES.md, "The whole check").
-use Rattle.std.specs.Prelude.{ℕ}
-use Rattle.bson.specs.Answer.{Answer, gives, refuses}
+-- What levels, openings and a visit's answer say on paper (RULES.md, "The whole check").
+use Rattle.std.specs.Prelude.{ℕ, Option, None, Some, Result}
+use Rattle.bson.specs.Answer.{Answer, at}
 use Rattle.bson.specs.Level as paper
 use Rattle.part.specs.Said.{said_part}
+use Rattle.refusal.specs.Said.{said_by}
+use Rattle.refusal.specs.declared.Refusal.{Refusal}
 use Rattle.visit.specs.declared.Level.{Level}
-use Rattle.visit.specs.declared.Opening.{Opening}
-use Rattle.visit.specs.declared.Opening.TheVariants.{Closed, Opens}
-use Rattle.visit.specs.declared.Visited.{Visited}
-use Rattle.visit.specs.declared.Visited.TheVariants.{Is, Refused}
+use Rattle.visit.specs.declared.Opened.{Opened}
 
 abbrev pub said_level : Level → paper.Level
 said_level l = record { is_array = l.array; base = l.base; depth = l.depth }
 
-abbrev pub said_opening : Opening → paper.Opening
-said_opening Closed = paper.closed
-said_opening (Opens is_array levels inner) = paper.opens is_array levels (said_part inner)
+abbrev pub said_opening : Option Opened → paper.Opening
+said_opening None = paper.closed
+said_opening (Some o) = paper.opens o.array o.levels (said_part o.inner)
 
 -- a visit's refusal stands at the element's place
-unfoldable pub said_visited : ℕ → Visited → Answer paper.Opening
-said_visited place (Is o) = gives (said_opening o)
-said_visited place (Refused number) = refuses number place
+unfoldable pub said_visited : ℕ → Result (Option Opened) Refusal → Answer paper.Opening
+said_visited place r = at place (said_by said_opening r)

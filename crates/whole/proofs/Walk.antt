@@ -14,15 +14,15 @@ use Rattle.bson.specs.Value.{Value, leaf, document, array, code_with_scope}
 use Rattle.bson.specs.Level.{Opening, closed, opens, opening, Level, deeper}
 use Rattle.bson.specs.ArrayKey.{good_array_key}
 use Rattle.bson.specs.Check.{Walk, key_passes, visit, opened, walk_under}
-use Rattle.laws.proofs.AnswerLaws.{answered}
 use Rattle.laws.specs.FramedAt.{FramedAt}
 use Rattle.laws.proofs.StepLaws.{step_yields}
 use Rattle.laws.proofs.OpenLaws.{value_opens}
 use Rattle.laws.proofs.CheckLaws.{visit_says, visit_keyed, visit_bad_key, walk_from, walk_eq, walk_ends, walk_refused, walk_onward}
-use Rattle.visit.specs.declared.Opening as declared
+use Rattle.std.specs.Prelude.{Option, Ok, Err}
+use Rattle.refusal.specs.Said.{number}
+use Rattle.refusal.specs.declared.Refusal.{Refusal}
 use Rattle.visit.specs.Said.{said_opening, said_visited}
-use Rattle.visit.specs.declared.Visited.{Visited}
-use Rattle.visit.specs.declared.Visited.TheVariants.{Is, Refused}
+use Rattle.visit.specs.declared.Opened.{Opened}
 
 -- ---- places
 
@@ -100,15 +100,13 @@ enters s l c e y is_array levels inner v =
 
 -- ---- what a visit answered
 
--- what a visit answered, by the case that it turned out to be
-pub visited_is : (p : ℕ) (a : Answer Opening) (r : Visited) (o : declared.Opening) → said_visited p r ≡ a → r ≡ Is o
-    → a ≡ gives (said_opening o)
+pub visited_is : (p : ℕ) (a : Answer Opening) (o : Option Opened) → said_visited p (Ok o) ≡ a → a ≡ gives (said_opening o)
 unfolding said_visited
-visited_is p a r o e q = answered (said_visited p) e q
+visited_is p a o e = sym e
 
-pub visited_refused : (p : ℕ) (a : Answer Opening) (r : Visited) (n : ℕ) → said_visited p r ≡ a → r ≡ Refused n → a ≡ refuses n p
+pub visited_refused : (p : ℕ) (a : Answer Opening) (why : Refusal) → said_visited p (Err why) ≡ a → a ≡ refuses (number why) p
 unfolding said_visited
-visited_refused p a r n e q = answered (said_visited p) e q
+visited_refused p a why e = sym e
 
 -- ---- what is left of the walk
 

@@ -1,15 +1,15 @@
 -- Determined: the promise of each call allows one answer (RULES.md, "What every answer is bound to").
-use mathlib.Core.Path.{◌≡◌, refl, sym, ap, ◌∙◌}
+use mathlib.Core.Path.{◌≡◌, refl, sym, ◌∙◌}
 use contract.Lifetimes.{Lfts}
 use borrow.Fn.Kinds.{Dens}
-use Rattle.bson.specs.Answer.{Answer}
 use Rattle.bson.specs.Writer as paper
-use Rattle.laws.proofs.Determined.{Determined, injective_by, unsaid}
-use Rattle.writer_state.specs.Said.{said_kind, said}
+use Rattle.laws.proofs.Determined.{Determined}
+use Rattle.refusal.proofs.Determined.{said_by_injective}
+use Rattle.writer_state.specs.Said.{said_kind}
 use Rattle.writer_state.specs.declared.Kind.{Kind}
 use Rattle.writer_state.specs.declared.Kind.TheVariants.{Document, Array}
-use Rattle.writer_state.specs.declared.OpenKind.{OpenKind}
-use Rattle.writer_state.specs.declared.OpenKind.TheVariants.{Is, Refused}
+use Rattle.writer_state.proofs.Kind.mark.Reads as mark_reads
+use Rattle.writer_state.proofs.Kind.mark.Kinds as mark_kinds
 use Rattle.writer_state.proofs.room_of.Reads as room_of_reads
 use Rattle.writer_state.proofs.room_of.Kinds as room_of_kinds
 use Rattle.writer_state.proofs.wide.Reads as wide_reads
@@ -28,19 +28,11 @@ unsaid_kind paper.in_document = Document
 unsaid_kind (paper.in_array count) = Array count
 
 kind_again : (k : Kind) → unsaid_kind (said_kind k) ≡ k
-unfolding said_kind
 kind_again Document = refl
 kind_again (Array count) = refl
 
-abbrev unsaid_open_kind : Answer paper.Kind → OpenKind
-unsaid_open_kind = unsaid (λ k. Is (unsaid_kind k)) Refused
-
-again : (r : OpenKind) → unsaid_open_kind (said r) ≡ r
-again (Is kind) = ap Is (kind_again kind)
-again (Refused n) = refl
-
-pub said_injective : (a b : OpenKind) → said a ≡ said b → a ≡ b
-said_injective = injective_by said unsaid_open_kind again
+pub mark_determined : (κs : Lfts 0) (a : Dens κs mark_kinds.ps) → Determined (mark_reads.Post κs a)
+mark_determined κs a r₁ r₂ s₁ s₂ p q = p ∙ sym q
 
 pub room_of_determined : (κs : Lfts 0) (a : Dens κs room_of_kinds.ps) → Determined (room_of_reads.Post κs a)
 room_of_determined κs a r₁ r₂ s₁ s₂ p q = p ∙ sym q
@@ -58,4 +50,4 @@ pub possible_determined : (κs : Lfts 1) (a : Dens κs possible_kinds.ps) → De
 possible_determined κs a r₁ r₂ s₁ s₂ p q = p ∙ sym q
 
 pub innermost_determined : (κs : Lfts 1) (a : Dens κs innermost_kinds.ps) → Determined (innermost_reads.Post κs a)
-innermost_determined κs a r₁ r₂ s₁ s₂ p q = said_injective r₁ r₂ (p ∙ sym q)
+innermost_determined κs a r₁ r₂ s₁ s₂ p q = said_by_injective said_kind unsaid_kind kind_again r₁ r₂ (p ∙ sym q)

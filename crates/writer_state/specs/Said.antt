@@ -1,15 +1,15 @@
--- What the cases of a kind and of an answer say on paper (RULES.md, "Writer and joining").
-use Rattle.bson.specs.Answer.{Answer, gives, refuses}
+-- What the kinds say on paper, and their marks (RULES.md, "Writer and joining").
+use Rattle.std.specs.Prelude.{ℕ}
+use Rattle.bson.specs.Grammar.{document}
 use Rattle.bson.specs.Writer as paper
 use Rattle.writer_state.specs.declared.Kind.{Kind}
 use Rattle.writer_state.specs.declared.Kind.TheVariants.{Document, Array}
-use Rattle.writer_state.specs.declared.OpenKind.{OpenKind}
-use Rattle.writer_state.specs.declared.OpenKind.TheVariants.{Is, Refused}
 
-unfoldable pub said_kind : Kind → paper.Kind
+abbrev pub said_kind : Kind → paper.Kind
 said_kind Document = paper.in_document
 said_kind (Array count) = paper.in_array count
 
-abbrev pub said : OpenKind → Answer paper.Kind
-said (Is kind) = gives (said_kind kind)
-said (Refused n) = refuses n 0
+-- the mark that `kind_of` reads as this kind
+abbrev pub mark_told : paper.Kind → ℕ
+mark_told paper.in_document = paper.mark_of document
+mark_told (paper.in_array count) = count

@@ -3,7 +3,10 @@
 
 ghost use Rattle.std.specs.Prelude.{◌≡◌, ◌≤◌, ◌<◌, ◌^◌};
 ghost use Rattle.bson.specs.Writer as paper;
-ghost use Rattle.writer_state.specs.Said.{said_kind, said};
+ghost use Rattle.refusal.specs.Said.{said_by};
+ghost use Rattle.writer_state.specs.Said.{said_kind, mark_told};
+
+use refusal::Refusal;
 
 // How many documents can be open: one around values of each depth, and one around none.
 pub const MAX_OPEN: usize = bounds::MAX_DEPTH + 2;
@@ -14,7 +17,7 @@ pub const WORDS: usize = 2 + 2 * MAX_OPEN;
 pub type Words = [u32; WORDS];
 
 // The mark of an open document that is no array; that of an array is the number of its elements.
-pub const DOCUMENT_MARK: u32 = 0xFFFF_FFFF;
+const DOCUMENT_MARK: u32 = 0xFFFF_FFFF;
 
 // What an open document is; an array has so many elements.
 #[derive(Clone, Copy)]
@@ -23,24 +26,29 @@ pub enum Kind {
     Array(u32),
 }
 
-// The kind of the innermost, or the number of the refusal.
-#[derive(Clone, Copy)]
-pub enum OpenKind {
-    Is(Kind),
-    Refused(u8),
+impl Kind {
+    // The mark that tells it: the one place that makes it.
+    pub fn mark(self) -> u32
+        ensures { result ≡ mark_told (said_kind self) }
+    {
+        match self {
+            Kind::Document => DOCUMENT_MARK,
+            Kind::Array(count) => count,
+        }
+    }
 }
 
-// The kind that a mark tells: the one place that reads it.
-fn kind_of(mark: u32) -> OpenKind
-    ensures { said result ≡ paper.kind_of mark }
+// The kind that a mark tells, or 18: the one place that reads it.
+fn kind_of(mark: u32) -> Result<Kind, Refusal>
+    ensures { said_by said_kind result ≡ paper.kind_of mark }
 {
     if mark < bounds::NEGATIVE {
-        return OpenKind::Is(Kind::Array(mark));
+        return Ok(Kind::Array(mark));
     }
     if mark == DOCUMENT_MARK {
-        return OpenKind::Is(Kind::Document);
+        return Ok(Kind::Document);
     }
-    OpenKind::Refused(18)
+    Err(Refusal::OutOfTurn)
 }
 
 // Whether a kind can be where so many bytes are used.
@@ -58,17 +66,10 @@ fn stands(words: &Words, i: usize, end: u32) -> bool
     requires { i < 202 }
     ensures { result ≡ paper.stands words.now i end }
 {
-    let start = words[2 + 2 * i];
-    if end < 4 {
+    if end < 4 || end - 4 < words[2 + 2 * i] {
         return false;
     }
-    if end - 4 < start {
-        return false;
-    }
-    match kind_of(words[3 + 2 * i]) {
-        OpenKind::Is(kind) => holds(kind, words[0]),
-        OpenKind::Refused(_) => false,
-    }
+    kind_of(words[3 + 2 * i]).is_ok_and(|kind| holds(kind, words[0]))
 }
 
 // Whether so many open documents can be, from the innermost out.
@@ -77,9 +78,7 @@ fn stand(words: &Words, depth: usize) -> bool
     ensures { result ≡ paper.stand words.now depth (paper.used words.now) }
 {
     let mut end = words[0];
-    let mut i = depth;
-    while 0 < i {
-        i -= 1;
+    for i in (0..depth).rev() {
         if !stands(words, i, end) {
             return false;
         }
@@ -92,10 +91,7 @@ fn stand(words: &Words, depth: usize) -> bool
 pub fn room_of(len: usize) -> usize
     ensures { result ≡ paper.room len }
 {
-    if len <= bounds::MAX_LEN {
-        return len;
-    }
-    bounds::MAX_LEN
+    len.min(bounds::MAX_LEN)
 }
 
 // A word as a size.
@@ -124,18 +120,12 @@ pub fn possible(words: &Words, room: usize) -> bool
     ensures { result ≡ paper.possible words.now room }
 {
     let depth = depth(words);
-    if MAX_OPEN < depth {
-        return false;
-    }
-    if room < used(words) + depth {
-        return false;
-    }
-    stand(words, depth)
+    depth <= MAX_OPEN && used(words) + depth <= room && stand(words, depth)
 }
 
 // The kind of the innermost, or 18.
-pub fn innermost(words: &Words, room: usize) -> OpenKind
-    ensures { said result ≡ paper.innermost words.now room }
+pub fn innermost(words: &Words, room: usize) -> Result<Kind, Refusal>
+    ensures { said_by said_kind result ≡ paper.innermost words.now room }
 {
     if possible(words, room) {
         let depth = depth(words);
@@ -143,5 +133,5 @@ pub fn innermost(words: &Words, room: usize) -> OpenKind
             return kind_of(words[3 + 2 * (depth - 1)]);
         }
     }
-    OpenKind::Refused(18)
+    Err(Refusal::OutOfTurn)
 }

@@ -3,4 +3,4 @@ use Rattle.appending.proofs.Filled.{nothing_put}
 use Rattle.append_scalars.proofs.append_nothing.Goals as goal
 
 pub returns : goal.returns
-returns c = nothing_put _ _ _ _ _ _ c.head.ensures c.head.auto.out
+returns c = nothing_put _ _ _ _ _ _ _ c.head.ensures c.head.auto.out

@@ -12,9 +12,9 @@ returns-then-v-i-eq0 c =
 pub returns-then-i-v : goal.returns-then-i-v
 unfolding cstring_under
 returns-then-i-v c =
-    rw (← c.cut-v.ensures, ← c.number_of.ensures) c.read_mixed.ensures
+    rw (← c.cut-v.ensures, ← c.missing.ensures) c.read_mixed.ensures
 
 pub returns : goal.returns
 unfolding cstring_under
 returns c =
-    rw (← c.cut-v.ensures, ← c.number_of-2.ensures) (plain_none _ _ c.plain_end-i.ensures (omega arith) _)
+    rw (← c.cut-v.ensures, ← c.missing-2.ensures) (plain_none _ _ c.plain_end-i.ensures (omega arith) _)

@@ -1,6 +1,6 @@
 -- `decimal::put_decimal` meets its contract: the digits where they fit, else nothing.
 use Prim.Native.Nat.{ℕ}
-use mathlib.Core.Path.{◌≡◌, sym, ap, ◌∙◌}
+use mathlib.Core.Path.{◌≡◌, refl, sym, ap, ◌∙◌}
 use mathlib.Core.List.{List}
 use borrow.Author.Tests.{leb-true}
 use Rattle.bson.specs.Decimal.{digits, width, decimal}
@@ -25,10 +25,12 @@ put_digits-requires c =
 
 pub returns-then-fits : goal.returns-then-fits
 returns-then-fits c =
-    let w = c.width_of-k.ensures.0 in
-    text_put _ _ _ _ (w ∙ sym (length_decimal _)) _ (sym c.fits.ensures ∙ c.if-fits.true)
-    (all_digits _ _ _ _ _ w c.put_digits.ensures)
+    let w = c.width_of-k.ensures.0 in (
+      text_put _ _ _ _ (w ∙ sym (length_decimal _)) _ (sym c.fits.ensures ∙ c.if-fits.true)
+          (all_digits _ _ _ _ _ w c.put_digits.ensures),
+      refl,
+    )
 
-pub returns : goal.returns
-returns c =
-    text_left _ _ _ _ (c.width_of-k.ensures.0 ∙ sym (length_decimal _)) (sym c.fits.ensures ∙ c.if-fits.false)
+pub returns-else-fits : goal.returns-else-fits
+returns-else-fits c =
+    (text_left _ _ _ _ (c.width_of-k.ensures.0 ∙ sym (length_decimal _)) (sym c.fits.ensures ∙ c.if-fits.false), refl)

@@ -6,8 +6,8 @@ use Rattle.document.proofs.Search.{Searching}
 use Rattle.document.proofs.find.Given as goal
 
 -- the loop goes over `whole`, which is all of the slice
-abbrev pub invariant-loop-number : goal.invariant-loop-number
-invariant-loop-number l = Searching (limit_of l.limit) l.s l.key l.whole l.place
+abbrev pub invariant-loop-sizes : goal.invariant-loop-sizes
+invariant-loop-sizes l = Searching (limit_of l.fn.limit) l.s l.key l.whole l.place
 
-abbrev pub decreases-loop-number : goal.decreases-loop-number
-decreases-loop-number l = length l.s - l.place
+abbrev pub decreases-loop-sizes : goal.decreases-loop-sizes
+decreases-loop-sizes l = length l.s - l.place

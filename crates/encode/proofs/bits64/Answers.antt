@@ -1,11 +1,10 @@
--- `encode::bits64` meets its contract, by the laws of every width at 64.
-use mathlib.Core.Path.{refl}
+-- `encode::bits64` meets its contract, by the law of every width at 64.
+use mathlib.Core.Path.{refl, ◌∙◌}
 use mir.Syntax.{w64}
-use Rattle.encode.proofs.Unsigned.{positive_stays, negative_down}
+use mir.Val.{of_z}
+use Rattle.encode.proofs.Basic.{passed}
+use Rattle.encode.proofs.Unsigned.{bits_unsigned}
 use Rattle.encode.proofs.bits64.Goals as goal
 
-pub returns-then-n-ge0 : goal.returns-then-n-ge0
-returns-then-n-ge0 c = positive_stays w64 c.args.n c.ranges.n c.if-n-ge0.true 0x8000_0000_0000_0000
-
-pub returns-else-n-ge0 : goal.returns-else-n-ge0
-returns-else-n-ge0 c = negative_down w64 c.args.n c.ranges.n c.if-n-ge0.false 0x8000_0000_0000_0000 0xFFFF_FFFF_FFFF_FFFF refl
+pub returns : goal.returns
+returns c = passed w64 c.args.n c.ranges.n (of_z w64) c.cast_unsigned.ensures ∙ bits_unsigned w64 0x8000_0000_0000_0000 refl c.args.n

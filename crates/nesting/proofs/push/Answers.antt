@@ -4,4 +4,4 @@ use Rattle.nesting.proofs.push.Goals as goal
 
 pub returns : goal.returns
 unfolding pushed_at
-returns c = rw c.depth-depth.ensures.0
+returns c = rw (c.depth-depth.ensures.0, c.mark.ensures)

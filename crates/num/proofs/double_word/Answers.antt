@@ -1,14 +1,11 @@
--- `num::double_word` meets its contract: the upper half is the word at the rest from 4.
+-- `num::double_word` meets its contract: std's sum of the bytes is the definition's.
 use native.Mathlib.Omega.{arith}
-use mathlib.Core.Path.{◌≡◌, ap, ◌∙◌}
-use lib.ListN.{drop}
+use lib.Seq.{get_or-drop}
 use Rattle.bson.specs.Bytes.{le32, le64}
-use Rattle.laws.proofs.Common.{rest_part}
 use Rattle.num.proofs.double_word.Goals as goal
 
 pub returns : goal.returns
-unfolding le64
+unfolding le32 le64
 returns c =
     let v = c.args.v.now in
-    let e : c.word-2.result ≡ le32 (drop 4 v) = c.word-2.ensures ∙ ap le32 (rest_part v 4) in
-    omega arith
+    omega (arith, c.from_le_bytes.ensures, get_or-drop 4 v 0 0, get_or-drop 4 v 1 0, get_or-drop 4 v 2 0, get_or-drop 4 v 3 0)

@@ -1,13 +1,11 @@
 -- `num::signed32` meets its contract, by the law of every width at 32.
-use mathlib.Core.Path.{refl}
-use native.Mathlib.Omega.{arith}
-use Prim.Native.Nat.{◌-◌}
+use mathlib.Core.Path.{refl, ◌∙◌}
 use mir.Syntax.{w32}
-use Rattle.num.proofs.Signed.{low, back}
+use mir.ValLaws.{to_z-of_z}
+use Rattle.num.proofs.Signed.{cast_signed_law}
 use Rattle.num.proofs.signed32.Goals as goal
 
-pub returns-then-x-lt-NEGATIVE : goal.returns-then-x-lt-NEGATIVE
-returns-then-x-lt-NEGATIVE c = low w32 0x8000_0000 c.args.x refl c.if-x-lt-NEGATIVE.true
-
-pub returns-else-x-lt-NEGATIVE : goal.returns-else-x-lt-NEGATIVE
-returns-else-x-lt-NEGATIVE c = back w32 0x8000_0000 c.args.x (4294967295 - c.args.x) (omega arith) (omega arith) (omega arith)
+pub returns : goal.returns
+returns c =
+    let r = c.cast_signed in
+    to_z-of_z w32 r.result (record { sfits = r.type_inv }) ∙ r.ensures ∙ cast_signed_law w32 0x8000_0000 c.args.x refl refl

@@ -1,15 +1,11 @@
 -- `num::signed64` meets its contract, by the law of every width at 64.
-use mathlib.Core.Path.{refl}
-use native.Mathlib.Omega.{arith}
-use Prim.Native.Nat.{◌-◌}
+use mathlib.Core.Path.{refl, ◌∙◌}
 use mir.Syntax.{w64}
-use Rattle.num.proofs.Signed.{low, back}
+use mir.ValLaws.{to_z-of_z}
+use Rattle.num.proofs.Signed.{cast_signed_law}
 use Rattle.num.proofs.signed64.Goals as goal
 
-pub returns-then-x-lt9223372036854775808 : goal.returns-then-x-lt9223372036854775808
-returns-then-x-lt9223372036854775808 c = low w64 0x8000_0000_0000_0000 c.args.x refl c.if-x-lt9223372036854775808.true
-
-pub returns-else-x-lt9223372036854775808 : goal.returns-else-x-lt9223372036854775808
-returns-else-x-lt9223372036854775808 c =
-    back w64 0x8000_0000_0000_0000 c.args.x (18446744073709551615 - c.args.x) (omega arith) (omega arith)
-    (omega arith)
+pub returns : goal.returns
+returns c =
+    let r = c.cast_signed in
+    to_z-of_z w64 r.result (record { sfits = r.type_inv }) ∙ r.ensures ∙ cast_signed_law w64 0x8000_0000_0000_0000 c.args.x refl refl

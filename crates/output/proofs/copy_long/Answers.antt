@@ -4,7 +4,7 @@ use mathlib.Core.Path.{◌≡◌, sym, ap, ◌∙◌}
 use mathlib.Core.List.{List}
 use native.Mathlib.Numerals.{add-one}
 use native.Mathlib.Omega.{arith}
-use lib.ListN.{length, get_or, set, length-set}
+use lib.ListN.{length, get_or, set}
 use lib.Seq.{paste, paste-suc}
 use Rattle.laws.proofs.OutputLaws.{put_paste}
 use Rattle.output.proofs.copy_long.Goals as goal
@@ -14,17 +14,14 @@ loop-i-preserved c =
     let l = c.loop-i in
     let a = c.args in
     let h : a.at + l.i < length a.out.now = omega arith in
-    let g : l.i < length a.text.now = omega arith in (
-      omega arith,
-      simp length-set l.invariant.1,
-      ap (λ (b : List ℕ). set b (a.at + l.i) (get_or a.text.now l.i 0)) l.invariant.2
-          ∙ paste-suc a.out.now a.at a.text.now l.i 0 h g
-          ∙ ap (paste a.out.now a.at a.text.now) (sym (add-one l.i)),
-    )
+    let g : l.i < length a.text.now = omega arith in
+    ap (λ (b : List ℕ). set b (a.at + l.i) (get_or a.text.now l.i 0)) l.invariant
+    ∙ paste-suc a.out.now a.at a.text.now l.i 0 h g
+    ∙ ap (paste a.out.now a.at a.text.now) (sym (add-one l.i))
 
 pub returns : goal.returns
 returns c =
     let l = c.loop-i in
     let a = c.args in
     let e : l.i ≡ length a.text.now = omega arith in
-    l.invariant.2 ∙ ap (paste a.out.now a.at a.text.now) e ∙ put_paste _ _ _
+    l.invariant ∙ ap (paste a.out.now a.at a.text.now) e ∙ put_paste _ _ _

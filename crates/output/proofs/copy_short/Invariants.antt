@@ -6,7 +6,7 @@ use Rattle.bson.specs.Output.{put}
 use Rattle.output.proofs.copy_short.Given as goal
 
 abbrev pub invariant-loop-i : goal.invariant-loop-i
-invariant-loop-i l = (l.i ≤ length l.text) × (length l.out ≡ length l.initial.out) × (l.out ≡ put l.initial.out l.at (take l.i l.text))
+invariant-loop-i l = (l.i ≤ length l.text) × (l.out ≡ put l.initial.out l.at (take l.i l.text))
 
 abbrev pub decreases-loop-i : goal.decreases-loop-i
 decreases-loop-i l = length l.text - l.i

@@ -1,31 +1,17 @@
--- `path::find` meets its contract: what the words tell of the slice itself, which lies in itself from 0 on.
-use Prim.Native.Nat.{ℕ}
-use mathlib.Core.Path.{◌≡◌, ap, ◌∙◌}
-use mathlib.Core.List.{List}
-use lib.ListN.{length}
-use lib.Seq.{take-length}
-use borrow.Author.Tests.{lt-ltb, le-ltb}
-use Rattle.bson.specs.Answer.{Answer}
-use Rattle.bson.specs.Bytes.{part, bytes}
-use Rattle.bson.specs.Lookup.{Found, found}
-use Rattle.laws.proofs.MovedLaws.{moved_stays}
-use Rattle.path.specs.Said.{reads_told, Reaches}
+-- `path::find` meets its contract: the slice lies in itself from 0 on.
+use mathlib.Core.Path.{sym, ◌∙◌}
+use native.Mathlib.Omega.{arith}
+use borrow.Author.Tests.{leb-true, leb-false}
+use Rattle.laws.proofs.PathLaws.{path_long}
+use Rattle.path.proofs.Levels.{reached}
 use Rattle.path.proofs.find.Goals as goal
 
-itself : (s : List ℕ) → bytes s (part 0 (length s)) ≡ s
-unfolding bytes
-itself s = take-length s
+pub returns-then-not-is_short : goal.returns-then-not-is_short
+returns-then-not-is_short c =
+    rw c.at.ensures (sym (path_long _ _ _ (leb-false _ _ (sym c.is_short.ensures ∙ c.if-not-is_short.true))))
 
--- what is reached from the slice's own start is read in it
-reached : (s told : List ℕ) (kind : ℕ) (a : Answer Found) → Reaches s 0 kind told a → reads_told s kind told ≡ a
-reached s told kind a r = r.answers s (itself s) ∙ moved_stays a
-
-pub returns-then-kind-lt-REFUSAL : goal.returns-then-kind-lt-REFUSAL
-returns-then-kind-lt-REFUSAL c =
-    let r = reached _ _ _ _ c.along-kind.ensures in
-    ap (found _) c.element_of.ensures ∙ (rw (lt-ltb c.along-kind.result 256 c.if-kind-lt-REFUSAL.true) at r)
+pub along-requires : goal.along-requires
+along-requires c = (omega arith, leb-true _ _ (sym c.is_short.ensures ∙ c.if-not-is_short.false))
 
 pub returns : goal.returns
-returns c =
-    let r = reached _ _ _ _ c.along-kind.ensures in
-    rw (le-ltb c.along-kind.result 256 c.if-kind-lt-REFUSAL.false) at r
+returns c = reached c.along.ensures

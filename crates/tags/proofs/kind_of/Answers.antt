@@ -17,12 +17,12 @@ pub returns-then-tag-gt-DECIMAL128 : goal.returns-then-tag-gt-DECIMAL128
 returns-then-tag-gt-DECIMAL128 c =
     is_neither _ c.ranges.tag.fits c.if-tag-gt-DECIMAL128.true c.if-min_key-tag.false c.if-max_key-tag.false
 
-pub loop-i-init : goal.loop-i-init
+pub loop-row-init : goal.loop-row-init
 unfolding table tags
-loop-i-init c = first_row refl c.ranges.tag.fits c.if-tag-gt-DECIMAL128.false
+loop-row-init c = first_row refl c.ranges.tag.fits c.if-tag-gt-DECIMAL128.false
 
 pub returns-then-row-tag : goal.returns-then-row-tag
-returns-then-row-tag c = this_row c.loop-i.invariant _ (omega arith) c.if-row-tag.true
+returns-then-row-tag c = this_row c.loop-row.invariant _ (omega arith) c.if-row-tag.true
 
-pub loop-i-preserved : goal.loop-i-preserved
-loop-i-preserved c = next_row c.loop-i.invariant _ (omega arith) c.if-row-tag.false
+pub loop-row-preserved : goal.loop-row-preserved
+loop-row-preserved c = next_row c.loop-row.invariant _ (omega arith) c.if-row-tag.false

@@ -1,11 +1,10 @@
--- `utf8::is_utf8` goes round: the blocks before i are ASCII, so the bytes from i on decide, and those from k on.
-use Prim.Native.Nat.{◌-◌}
+-- `utf8::is_utf8` goes round: what is in front of the rest is ASCII.
 use lib.ListN.{length}
-use Rattle.utf8.proofs.TextLaws.{At}
+use Rattle.utf8.specs.Ascii.{Behind}
 use Rattle.utf8.proofs.is_utf8.Given as goal
 
-abbrev pub invariant-loop-i : goal.invariant-loop-i
-invariant-loop-i l = At l.s l.k × At l.s l.i
+abbrev pub invariant-loop-block : goal.invariant-loop-block
+invariant-loop-block l = Behind l.s l.rest
 
-abbrev pub decreases-loop-i : goal.decreases-loop-i
-decreases-loop-i l = length l.s - l.i
+abbrev pub decreases-loop-block : goal.decreases-loop-block
+decreases-loop-block l = length l.rest

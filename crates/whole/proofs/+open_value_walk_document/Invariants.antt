@@ -16,11 +16,11 @@ abbrev pub decreases-walk_document : goal.decreases-walk_document
 decreases-walk_document l = (202 - l.level.depth) + length l.s.now
 
 -- the loop goes over `whole`, which is all of the slice; where keys are asked for, `position` says how many have passed
-abbrev pub invariant-walk_document-loop-number : goal.invariant-walk_document-loop-number
-invariant-walk_document-loop-number l =
+abbrev pub invariant-walk_document-loop-inside : goal.invariant-walk_document-loop-inside
+invariant-walk_document-loop-inside l =
     (l.whole ≡ l.s) × (passed : ℕ) × (l.count + 4 ≤ l.offset) × (l.offset ≤ length l.s + 4)
     × LeftFrom (limit_of l.limit) l.strict l.s (said_level l.level) l.offset l.count passed
     × (l.strict && l.level.array ≡ true → l.position ≡ passed) × (l.position + 4 ≤ l.offset)
 
-abbrev pub decreases-walk_document-loop-number : goal.decreases-walk_document-loop-number
-decreases-walk_document-loop-number l = length l.s + 4 - l.offset
+abbrev pub decreases-walk_document-loop-inside : goal.decreases-walk_document-loop-inside
+decreases-walk_document-loop-inside l = length l.s + 4 - l.offset

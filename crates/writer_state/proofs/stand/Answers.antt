@@ -6,15 +6,11 @@ use Rattle.writer_state.proofs.stand.Goals as goal
 
 pub returns-then-not-stands : goal.returns-then-not-stands
 returns-then-not-stands c =
-    sym (stand_refused _ _ _ (omega arith) (sym c.stands.ensures ∙ c.if-not-stands.true)) ∙ c.loop-i.invariant.1
+    sym (stand_refused _ _ _ (omega arith) (sym c.stands.ensures ∙ c.if-not-stands.true)) ∙ c.loop-i.invariant
 
 pub loop-i-preserved : goal.loop-i-preserved
 loop-i-preserved c =
-    let l = c.loop-i in (
-      omega arith,
-      sym (stand_onward _ _ _ (omega arith) (sym c.stands.ensures ∙ c.if-not-stands.false)) ∙
-          l.invariant.1,
-    )
+    sym (stand_onward _ _ _ (omega arith) (sym c.stands.ensures ∙ c.if-not-stands.false)) ∙ c.loop-i.invariant
 
 pub returns : goal.returns
-returns c = sym (stand_last _ _ _ (omega arith)) ∙ c.loop-i.invariant.1
+returns c = sym (stand_last _ _ _ (omega arith)) ∙ c.loop-i.invariant

@@ -1,11 +1,7 @@
 -- `writer_state::stand` goes round: each turn tests one open document and leaves those around it.
-use Prim.Native.Nat.{◌≤◌}
 use mathlib.Core.Path.{◌≡◌}
 use Rattle.bson.specs.Writer.{used, stand}
 use Rattle.writer_state.proofs.stand.Given as goal
 
 abbrev pub invariant-loop-i : goal.invariant-loop-i
-invariant-loop-i l = (l.i ≤ 202) × (stand l.words l.i l.end ≡ stand l.words l.depth (used l.words))
-
-abbrev pub decreases-loop-i : goal.decreases-loop-i
-decreases-loop-i l = l.i
+invariant-loop-i l = stand l.words l.i l.end ≡ stand l.words l.depth (used l.words)

@@ -1,20 +1,20 @@
--- `utf8::table::by_table` meets its contract: at every turn the bytes from i on decide, with what is left in the state.
+-- `utf8::table::by_table` meets its contract: at every turn the bytes from b on decide, with what is left in the state.
 use mathlib.Core.Path.{refl}
 use native.Mathlib.Omega.{arith}
 use Rattle.bson.specs.Utf8.{rows}
-use Rattle.utf8.proofs.TableLaws.{class_few, going_start, going_on, going_end}
+use Rattle.utf8.specs.declared.table.TheConstants.{CLASSES, MOVES}
+use Rattle.utf8.proofs.TableLaws.{Right, going_start, going_on, going_end}
 use Rattle.utf8.proofs.table.by_table.Goals as goal
 
-pub loop-i-init : goal.loop-i-init
+right : Right CLASSES MOVES
 unfolding rows
-loop-i-init c = going_start (record { computed = refl })
+right = record { computed = refl }
 
-pub after-state-requires : goal.after-state-requires
-after-state-requires c = class_few _ c.loop-i.invariant.right (c.shared_slice_known-in-loop-i-1.given _).fits
+pub loop-b-init : goal.loop-b-init
+loop-b-init c = going_start
 
-pub loop-i-preserved : goal.loop-i-preserved
-loop-i-preserved c =
-    going_on c.loop-i.invariant (omega arith) (c.shared_slice_known-in-loop-i-1.given _).fits c.after-state.ensures
+pub loop-b-preserved : goal.loop-b-preserved
+loop-b-preserved c = going_on right c.loop-b.invariant (omega arith) (c.type_inv.s _).fits c.after-state.ensures
 
 pub returns : goal.returns
-returns c = going_end c.loop-i.invariant (omega arith)
+returns c = going_end c.loop-b.invariant (omega arith)

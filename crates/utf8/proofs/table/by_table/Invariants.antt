@@ -1,11 +1,6 @@
--- `utf8::table::by_table` goes round: at every turn the bytes from i on decide, with what is left in the state.
-use Prim.Native.Nat.{◌-◌}
-use lib.ListN.{length}
+-- `utf8::table::by_table` goes round: at every turn the bytes from b on decide, with what is left in the state.
 use Rattle.utf8.proofs.TableLaws.{Going}
 use Rattle.utf8.proofs.table.by_table.Given as goal
 
-abbrev pub invariant-loop-i : goal.invariant-loop-i
-invariant-loop-i l = Going l.s l.classes l.moves l.state l.i
-
-abbrev pub decreases-loop-i : goal.decreases-loop-i
-decreases-loop-i l = length l.s - l.i
+abbrev pub invariant-loop-b : goal.invariant-loop-b
+invariant-loop-b l = Going l.s l.state l.b-index

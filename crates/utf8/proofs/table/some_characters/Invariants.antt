@@ -1,11 +1,6 @@
 -- `utf8::table::some_characters` goes round: whole characters before `valid`, and the state stands for the bytes from there to i.
-use Prim.Native.Nat.{◌-◌}
-use lib.ListN.{length}
 use Rattle.utf8.proofs.ChunkTable.{Judging}
 use Rattle.utf8.proofs.table.some_characters.Given as goal
 
 abbrev pub invariant-loop-i : goal.invariant-loop-i
-invariant-loop-i l = Judging l.v l.classes l.moves l.valid l.left l.i
-
-abbrev pub decreases-loop-i : goal.decreases-loop-i
-decreases-loop-i l = length l.v - l.i
+invariant-loop-i l = Judging l.v l.valid l.left l.i

@@ -1,8 +1,0 @@
--- `doc_writer::new` meets its contract: the words are the definition.
-use mathlib.Core.Path.{refl}
-use Rattle.bson.specs.Writer.{fresh}
-use Rattle.doc_writer.proofs.new.Goals as goal
-
-pub returns : goal.returns
-unfolding fresh
-returns c = refl

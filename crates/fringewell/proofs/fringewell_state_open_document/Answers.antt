@@ -1,6 +1,0 @@
--- `fringewell::fringewell_state_open_document` meets its contract: the call, then its numbers.
-use Rattle.fringewell.proofs.Through.{performed_through}
-use Rattle.fringewell.proofs.fringewell_state_open_document.Goals as goal
-
-pub returns : goal.returns
-returns c = performed_through _ _ _ c.open_document-number.ensures c.of_written.ensures
