@@ -61,6 +61,11 @@ def is_private(path):
     return path.stem != "lib" and f"pub mod {path.stem};" not in text(path.parent / "lib.rt")
 
 
+def is_method(path, start):
+    """Whether a function stands in an `impl`: whoever has the type has its methods, in whatever file they are."""
+    return text(path)[start] == " "
+
+
 @cache
 def functions():
     """Each with its file, where it begins there, and whether it is public and exported to C."""
@@ -69,7 +74,7 @@ def functions():
 
 def public():
     """Those that another crate can call."""
-    return [f for f in functions() if f[2] and is_library(f[0]) and not is_private(f[0])]
+    return [f for f in functions() if f[2] and is_library(f[0]) and (is_method(*f[:2]) or not is_private(f[0]))]
 
 
 def exported():
@@ -78,7 +83,7 @@ def exported():
 
 def promises():
     """The lines of `ensures` of the public functions of libraries."""
-    heads = [text(path)[start:].split("\n{")[0] for path, start, *_ in public()]
+    heads = [re.split(r"\n *\{\n", text(path)[start:], maxsplit=1)[0] for path, start, *_ in public()]
     return [line for head in heads if "ensures" in head for line in head[head.index("ensures") :].splitlines()]
 
 

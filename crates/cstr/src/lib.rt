@@ -186,6 +186,7 @@ pub fn is_valid_cstr(k: &[u8]) -> bool
 }
 
 // Whether two keys have equal bytes.
+#[tactic(auto, using(laws::proofs::BytesLaws::same_length, crate::proofs::Prefix::same_prefix))]
 pub fn equal(a: &[u8], b: &[u8]) -> bool
     ensures { result ≡ same a.now b.now }
 {

@@ -23,12 +23,14 @@ pub fn put_bytes32(output: &mut Output, n: usize)
 }
 
 // The bits of a signed number, by two's complement.
+#[tactic(auto, using(crate::proofs::Unsigned::bits_unsigned), unfolding(bson::specs::Grammar::unsigned))]
 pub fn bits32(n: i32) -> u32
     ensures { result ≡ grammar.unsigned 0x8000_0000 n }
 {
     i32::cast_unsigned(n)
 }
 
+#[tactic(auto, using(crate::proofs::Unsigned::bits_unsigned), unfolding(bson::specs::Grammar::unsigned))]
 pub fn bits64(n: i64) -> u64
     ensures { result ≡ grammar.unsigned 0x8000_0000_0000_0000 n }
 {

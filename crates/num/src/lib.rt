@@ -31,12 +31,14 @@ fn double_word(v: &[u8]) -> u64
     u64::from_le_bytes([v[0], v[1], v[2], v[3], v[4], v[5], v[6], v[7]])
 }
 
+#[tactic(auto, using(crate::proofs::Signed::cast_signed_law), unfolding(bson::specs::Bytes::signed))]
 fn signed32(x: u32) -> i32
     ensures { result ≡ signed 0x8000_0000 x }
 {
     u32::cast_signed(x)
 }
 
+#[tactic(auto, using(crate::proofs::Signed::cast_signed_law), unfolding(bson::specs::Bytes::signed))]
 fn signed64(x: u64) -> i64
     ensures { result ≡ signed 0x8000_0000_0000_0000 x }
 {

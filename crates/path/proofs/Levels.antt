@@ -137,9 +137,9 @@ made_moved s e base y small =
     let value : (base + e.place + 1 + e.key.size + 1) % 2 ^ 64 ≡ base + e.value.offset = omega arith in
     rw (key, value)
 
-refused_at : {s : List ℕ} {base n p : ℕ} {a : Answer Found} {x : Result Element Refused} (w : Refused) → x ≡ Err w → number w.why ≡ n
-    → w.place ≡ base + p → a ≡ refuses n p → Reaches s base x a
-refused_at w i m l q = record { answers = λ whole held. rw (i, m, l, q) }
+refused_at : {s : List ℕ} {base n p : ℕ} {a : Answer Found} (w : Refused) → number w.why ≡ n → w.place ≡ base + p → a ≡ refuses n p
+    → Reaches s base (Err w) a
+refused_at w m l q = record { answers = λ whole held. rw (m, l, q) }
 
 pub ends : (path : List ℕ) {size : ℕ} → size ≡ first_zero path → size ≤ length path
 ends path z = omega (arith, before_most is_zero path)
@@ -155,9 +155,8 @@ module _ (limit : Limit) (s path : List ℕ) (few : length (keys_of path).1 ≤ 
         pub refused_inside : w.place ≤ 4 + length s
         refused_inside = find_place _ _ _ _ _ miss
 
-        pub refused : {base : ℕ} {x : Result Element Refused} (v : Refused) → x ≡ Err v → v.why ≡ w.why → v.place ≡ base + w.place
-            → Reaches s base x (get_path_under limit s path)
-        refused v i m l = refused_at v i (ap number m) l (level_refused limit s path few _ w.place (rw z at miss))
+        pub refused : {base : ℕ} (v : Refused) → v.why ≡ w.why → v.place ≡ base + w.place → Reaches s base (Err v) (get_path_under limit s path)
+        refused v m l = refused_at v (ap number m) l (level_refused limit s path few _ w.place (rw z at miss))
 
       module _ (e : Element) (q : r ≡ Ok e) where
         hit : find_under limit s (take (first_zero path) path) ≡ gives (said_element e)
@@ -191,7 +190,7 @@ module _ (limit : Limit) (s path : List ℕ) (few : length (keys_of path).1 ≤ 
           pub stopped : {n base : ℕ} (w : Refused) → (eqb e.tag 0x03 || eqb e.tag 0x04) ≡ false
               → stops (value_in s e.tag (said_part e.value)) ≡ refuses n 0 → number w.why ≡ n → w.place ≡ base + e.place
               → Reaches s base (Err w) (get_path_under limit s path)
-          stopped {n} w h x m l = refused_at w refl m l (there ∙ rw (enters_other s (said_element e) n h x))
+          stopped {n} w h x m l = refused_at w m l (there ∙ rw (enters_other s (said_element e) n h x))
 
           pub onward : (eqb e.tag 0x03 || eqb e.tag 0x04) ≡ true → {base : ℕ} {inner behind : List ℕ} {x : Result Element Refused}
               → inner ≡ bytes s (said_part e.value) → behind ≡ drop (size + 1) path

@@ -22,7 +22,12 @@ fn is_short(path: &[u8]) -> bool
     if path.len() < bounds::MAX_KEYS {
         return true;
     }
-    let keys = 1 + path.iter().filter(|b| **b == 0).count();
+    let mut keys = 1;
+    for i in 0..path.len() {
+        if path[i] == 0 {
+            keys += 1;
+        }
+    }
     keys <= bounds::MAX_KEYS
 }
 
@@ -37,34 +42,49 @@ fn stopped(s: &[u8], element: Element) -> Refusal
 }
 
 // Looks a path up in a document that lies at an offset of the outermost slice: one key is used up at each level, and the rest of the path
-// is looked up in the part inside. Documents and arrays are entered unread, since framing asks of them all that reading asks.
-fn along(s: &[u8], path: &[u8], base: usize, limit: Option<usize>) -> Result<Element, Refused>
+// is looked up in the part inside. Documents and arrays are entered unread, since framing asks of them all that reading asks. The answer
+// is lent: handed back, it would lie in each level's frame and be copied behind the call inside, and the stack would grow with the depth.
+fn along(
+    s: &[u8],
+    path: &[u8],
+    base: usize,
+    limit: Option<usize>,
+    answer: &mut Result<Element, Refused>,
+)
     requires { (base + length s.now < 2 ^ 63) × (length (keys_of path.now).1 ≤ 200) }
-    ensures { Reaches s.now base result (get_path_under (limit_of limit) s.now path.now) }
+    ensures { Reaches s.now base answer.new (get_path_under (limit_of limit) s.now path.now) }
 {
     let zero = cstr::first_zero(path);
     let key = &path[..zero];
-    let element = document::find(s, key, limit).map_err(|r| r.why.at(base + r.place))?;
-    let value = element.value;
-    let place = base + element.place;
-    if zero == path.len() {
-        return Ok(iter::element_of(place, element.tag, element.key.size, value.size));
+    match document::find(s, key, limit) {
+        Err(r) => *answer = Err(r.why.at(base + r.place)),
+        Ok(element) => {
+            let value = element.value;
+            let place = base + element.place;
+            if zero == path.len() {
+                *answer = Ok(iter::element_of(place, element.tag, element.key.size, value.size));
+                return;
+            }
+            if (element.tag != tags::DOCUMENT) & (element.tag != tags::ARRAY) {
+                *answer = Err(stopped(s, element).at(place));
+                return;
+            }
+            let inside = &s[value.offset..value.offset + value.size];
+            let rest = &path[zero + 1..];
+            along(inside, rest, base + value.offset, limit, answer);
+        }
     }
-    if (element.tag != tags::DOCUMENT) & (element.tag != tags::ARRAY) {
-        return Err(stopped(s, element).at(place));
-    }
-    let inside = &s[value.offset..value.offset + value.size];
-    along(inside, &path[zero + 1..], base + value.offset, limit)
 }
 
 // The element that a path leads to, not read yet.
 fn find(s: &[u8], path: &[u8], limit: Option<usize>) -> Result<Element, Refused>
     ensures { reads s.now result ≡ get_path_under (limit_of limit) s.now path.now }
 {
-    if !is_short(path) {
-        return Err(Refusal::PathTooLong.at(0));
+    let mut answer = Err(Refusal::PathTooLong.at(0));
+    if is_short(path) {
+        along(s, path, 0, limit, &mut answer);
     }
-    along(s, path, 0, limit)
+    answer
 }
 
 // The element that a path leads to, and its value: 21; what is refused on the way, 17 where a value there can't be entered, 16 at the

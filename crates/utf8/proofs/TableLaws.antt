@@ -42,13 +42,9 @@ is_state x l = eqb x (6 * (x / 6)) && (ltb (x / 6) 9 && same_left (left_of (x / 
 
 -- ---- the tables, by one computed test
 
--- every class has its moves
-pub class_few : (c : List ℕ) → below (λ b. ltb (class_of c b) 12) 256 ≡ true → (b : ℕ) → b < 256 → class_of c b < 12
-class_few c t b h = ltb→lt (class_of c b) 12 (below_at (λ b. ltb (class_of c b) 12) 256 (rw t tt) b h)
-
--- the move behind b leaves what the rows leave
+-- the class of b has a number in the table, and the move behind it leaves what the rows leave
 abbrev is_right : List ℕ → List ℕ → ℕ → ℕ → Bool
-is_right c m k b = is_state (move_of c m (6 * k) b % 64) (next (left_of k) b)
+is_right c m k b = ltb (class_of c b) 12 && is_state (move_of c m (6 * k) b % 64) (next (left_of k) b)
 
 -- "the class rule is proved once over the whole table"
 pub record Right (c m : List ℕ) : Type 0 where
@@ -56,6 +52,11 @@ pub record Right (c m : List ℕ) : Type 0 where
 
 table_right : {c m : List ℕ} → Right c m → (k b : ℕ) → k < 9 → b < 256 → T (is_right c m k b)
 table_right {c} {m} t k b h l = below_at (is_right c m k) 256 (below_at (λ k. below (is_right c m k) 256) 9 (rw t.computed tt) k h) b l
+
+pub class_few : {c m : List ℕ} (b : ℕ) → Right c m → b < 256 → class_of c b < 12
+class_few {c} {m} b t h =
+    let x = move_of c m 0 b % 64 in
+    ltb→lt (class_of c b) 12 (both_left (ltb (class_of c b) 12) (is_state x (next (ranges []) b)) (table_right t 0 b (omega arith) h))
 
 -- ---- a state and what is left of a row
 
@@ -85,7 +86,7 @@ pub move_runs : {c m : List ℕ} {x : ℕ} {l : Left} (b : ℕ) → Right c m �
 move_runs {c} {m} {x} {l} b t r h =
     let y = move_of c m (6 * r.k) b in
     let w = next (left_of r.k) b in
-    rw (r.is, r.leaves) (is_state_runs y w (table_right t r.k b r.few h))
+    rw (r.is, r.leaves) (is_state_runs y w (both_right (ltb (class_of c b) 12) (is_state (y % 64) w) (table_right t r.k b r.few h)))
 
 -- no byte is read yet
 pub first_runs : Runs 0 (ranges [])

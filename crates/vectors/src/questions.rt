@@ -72,11 +72,13 @@ fn ask(rt: &impl Print, line: &[u8], first: &[u8], second: &[u8]) -> io::Result<
     }
 }
 
-pub fn replay_question(rt: &(impl Print + AllocGlobal), line: &[u8]) -> io::Result<()> {
-    let first = unhex(rt.alloc(), field(line, 1), 4096)?;
-    let second = unhex(rt.alloc(), fields_from(line, 2), 4096)?;
+pub fn replay_question(rt: &impl Print, line: &[u8]) -> io::Result<()> {
+    let mut first_space = [0; 4096];
+    let mut second_space = [0; 4096];
+    let first = unhex(field(line, 1), &mut first_space);
+    let second = unhex(fields_from(line, 2), &mut second_space);
     rt.write_all(line)?;
     rt.write_all(b" ")?;
-    ask(rt, line, &first, &second)?;
+    ask(rt, line, first, second)?;
     rt.write_all(b"\n")
 }

@@ -1,7 +1,6 @@
 // The bytes of a line: its fields, the numbers and the hexadecimal that stand in them.
-ghost use Rattle.std.specs.Prelude.{◌≡◌, ◌/◌, ◌<◌, min, length, vec_len, IfOk};
+ghost use Rattle.std.specs.Prelude.{◌≡◌, ◌/◌, ◌<◌, min, length};
 
-use std::alloc::{AllocError, Global};
 use std::fmt;
 use std::fmt::{Display, Formatter, Write};
 
@@ -41,16 +40,17 @@ pub fn byte_of(digits: &[u8]) -> u8 {
     }
 }
 
-// The bytes that pairs of digits name, at most so many.
-pub fn unhex(alloc: Global, digits: &[u8], most: usize) -> Result<Vec<u8>, AllocError>
-    ensures { IfOk result (λ bytes. vec_len bytes ≡ min most (length digits.now / 2)) }
+// The bytes that pairs of digits name, as many as there is room for.
+pub fn unhex<'a>(digits: &[u8], space: &'a mut [u8]) -> &'a [u8]
+    ensures { length result.now ≡ min (length space.old) (length digits.now / 2) }
 {
     let (pairs, _) = digits.as_chunks::<2>();
-    pairs
-        .iter()
-        .take(most)
-        .map(|pair| byte_of(pair))
-        .collect(alloc)
+    let n = space.len().min(pairs.len());
+    let bytes = &mut space[..n];
+    for (byte, pair) in bytes.iter_mut().zip(pairs) {
+        *byte = byte_of(pair);
+    }
+    bytes
 }
 
 // The same in an array; behind them it is zero.

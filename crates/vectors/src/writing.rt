@@ -13,7 +13,6 @@ use crate::places::say_verdict;
 use crate::text::{Hex, byte_of, field, head_of, number_of, unhex, unhex_array};
 use doc_writer::DocWriter;
 use refusal::Refusal;
-use std::alloc::{AllocError, Global};
 use std::io;
 
 // The number that decimal digits name, below 0 behind a minus, which names no digit; one that is too far is the least.
@@ -73,35 +72,28 @@ fn perform(
 }
 
 // The number that a call answers; 255, which no call answers, where it is none.
-fn number_answered(
-    alloc: Global,
-    call: &[u8],
-    out: &mut [u8],
-    w: &mut DocWriter,
-) -> Result<u8, AllocError> {
-    let key = unhex(alloc, field(call, 1), 256)?;
-    let first = unhex(alloc, field(call, 2), 1024)?;
-    let second = unhex(alloc, field(call, 3), 1024)?;
-    Ok(match perform(call, out, w, &key, &first, &second) {
+fn number_answered(call: &[u8], out: &mut [u8], w: &mut DocWriter) -> u8 {
+    let mut key_space = [0; 256];
+    let mut first_space = [0; 1024];
+    let mut second_space = [0; 1024];
+    let key = unhex(field(call, 1), &mut key_space);
+    let first = unhex(field(call, 2), &mut first_space);
+    let second = unhex(field(call, 3), &mut second_space);
+    match perform(call, out, w, key, first, second) {
         Some(Ok(())) => 0,
         Some(Err(why)) => why.number(),
         None => 255,
-    })
+    }
 }
 
-fn replay_call(
-    rt: &(impl Print + AllocGlobal),
-    call: &[u8],
-    out: &mut [u8],
-    w: &mut DocWriter,
-) -> io::Result<()> {
+fn replay_call(rt: &impl Print, call: &[u8], out: &mut [u8], w: &mut DocWriter) -> io::Result<()> {
     if cstr::equal(field(call, 0), b"word") {
         if let Some(word) = w.words.get_mut(number_of(field(call, 1))) {
             *word = word_of(field(call, 2));
         }
         return Ok(());
     }
-    let number = number_answered(rt.alloc(), call, out, w)?;
+    let number = number_answered(call, out, w);
     print!(rt; " {number}")
 }
 
@@ -117,19 +109,20 @@ fn say_left(rt: &impl Print, out: &[u8], w: &DocWriter) -> io::Result<()> {
     println!(rt; "")
 }
 
-pub fn replay_session(rt: &(impl Print + AllocGlobal), line: &[u8]) -> io::Result<()> {
+pub fn replay_session(rt: &impl Print, line: &[u8]) -> io::Result<()> {
     let room = number_of(field(head_of(line), 1));
     if 2048 < room {
         return println!(rt; "too much room");
     }
-    let mut out = vec![in rt.alloc(); 0xEEu8; room]?;
+    let mut space = [0xEE; 2048];
+    let out = &mut space[..room];
     let mut w = DocWriter::new();
     rt.write_all(line)?;
     rt.write_all(b" gives")?;
     for behind in line.split(|b| *b == b';').skip(1) {
         // where no space follows the `;`, it is no call
         let call = behind.strip_prefix(b" ").unwrap_or(b";");
-        replay_call(rt, call, &mut out, &mut w)?;
+        replay_call(rt, call, out, &mut w)?;
     }
-    say_left(rt, &out, &w)
+    say_left(rt, out, &w)
 }
